@@ -1,0 +1,23 @@
+use borrow.Author.Tests.{lt-leb, le-leb}
+use borrow.Author.Needs.{needs}
+use Rattle.mmc.specs.Order.{validOrder}
+use Rattle.mmc.proofs.order.is_valid.Statement.{statement}
+use Rattle.mmc.proofs.order.is_valid.Tie as tie
+
+returns : tie.Need-returns
+unfolding validOrder
+returns c = simp (lt-leb _ _ (c .if1 .taken))
+
+returns-2 : tie.Need-returns-2
+unfolding validOrder
+returns-2 c = simp (le-leb _ _ (c .before .if1 .left), lt-leb _ _ (c .if2 .taken))
+
+rest-none-requires : tie.Need-rest-none-requires
+rest-none-requires c κs = search needs
+
+returns-3 : tie.Need-returns-3
+unfolding validOrder
+returns-3 c = simp (c .rest-none .ensures, le-leb _ _ (c .before .before .if1 .left), le-leb _ _ (c .before .if2 .left))
+
+pub is-valid-spec : {M : Type 1} → statement M
+is-valid-spec = tie.close (tie.spec returns returns-2 rest-none-requires returns-3)

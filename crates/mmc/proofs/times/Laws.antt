@@ -1,0 +1,94 @@
+-- Addresses and times, both ways. Assumes nothing.
+use Prim.Native.Nat.{suc, _+_, _-_, _*_, _/_, _%_, _<_, _≤_}
+use native.Mathlib.Omega.{arith}
+use native.Mathlib.Decide.{decLt}
+use mathlib.Core.Path.{_≡_, sym, ap, _∙_}
+use mathlib.Core.Bool.{true, false, _&&_}
+use mathlib.Core.Logic.{⊎-elim}
+use lib.IntN.{ℤ, pos, _+ℤ_, _-ℤ_, natAbs, +ℤ-negℤ-cancel, -ℤ-+ℤ-cancel}
+use lib.Dec.{leb}
+use borrow.Author.Tests.{le-leb, leb-true}
+use Rattle.mmc.specs.Times.{inRange, framesTo, addressAt, clock, isTime, framesOf, timeOf, addressOf}
+use Rattle.mmc.proofs.bytes.Steps.{both, known}
+use Rattle.mmc.specs.Refusals.{pass, refuse}
+use Rattle.mmc.proofs.times.Signed.{frames, less}
+use Rattle.mmc.specs.declared.units.BlockAddress.{BlockAddress}
+use Rattle.mmc.specs.declared.units.FrameCount.{FrameCount}
+use Rattle.mmc.specs.declared.times.Time.{Time}
+
+time-parts : (t : Time) → isTime t ≡ true → (t .minute ≤ 99) × (t .second ≤ 59) × (t .frame ≤ 74)
+unfolding isTime
+time-parts t h =
+    let w = both (leb (t .minute) 99) (leb (t .second) 59 && leb (t .frame) 74) h in
+    let v = both (leb (t .second) 59) (leb (t .frame) 74) (w .1) in
+    (leb-true _ _ (w .0), leb-true _ _ (v .0), leb-true _ _ (v .1))
+
+-- a count of frames as a time, and back
+count-back : (f : FrameCount) → framesOf (clock f) ≡ f
+count-back f =
+    let e : (f .0 / 75 / 60 * 60 + f .0 / 75 % 60) * 75 + f .0 % 75 ≡ f .0 = omega arith in
+    simp e
+
+clock-is-time : (f : FrameCount) → f .0 < 450000 → isTime (clock f) ≡ true
+unfolding isTime
+clock-is-time f h = simp (le-leb (f .0 / 75 / 60) 99 (omega arith), le-leb (f .0 / 75 % 60) 59 (omega arith), le-leb (f .0 % 75) 74 (omega arith))
+
+clock-back : (t : Time) → isTime t ≡ true → clock (framesOf t) ≡ t
+clock-back t h =
+    let w = time-parts t h in
+    let m : ((t .minute * 60 + t .second) * 75 + t .frame) / 75 / 60 ≡ t .minute = omega (arith, w) in
+    let s : ((t .minute * 60 + t .second) * 75 + t .frame) / 75 % 60 ≡ t .second = omega (arith, w) in
+    let f : ((t .minute * 60 + t .second) * 75 + t .frame) % 75 ≡ t .frame = omega (arith, w) in
+    simp (m, s, f)
+
+pub frames-small : (t : Time) → isTime t ≡ true → framesOf t .0 < 450000
+frames-small t h = omega (arith, time-parts t h)
+
+-- an address as a count of frames, and back
+address-back : (a : BlockAddress) → inRange a ≡ true → addressAt (framesTo a) ≡ a
+unfolding addressAt
+address-back a h =
+    ap (λ (x : ℤ). record { 0 = x }) (ap (λ (x : ℤ). x -ℤ pos 150) (sym (frames a h .0)) ∙ +ℤ-negℤ-cancel (a .0) (pos 150))
+
+frames-back : (f : FrameCount) → framesTo (addressAt f) ≡ f
+unfolding framesTo addressAt
+frames-back f = ap (λ (x : ℤ). record { 0 = natAbs x }) (-ℤ-+ℤ-cancel (pos (f .0)) (pos 150))
+
+range-back : (f : FrameCount) → f .0 < 450000 → inRange (addressAt f) ≡ true
+unfolding inRange addressAt
+range-back f h =
+    ⊎-elim
+    (λ w. simp (w .1, le-leb (150 - suc (f .0)) 149 (omega arith)))
+    (λ w. simp (w .1, le-leb (f .0 - 150) 449849 (omega arith)))
+    (less (f .0) (decLt (f .0) 150))
+
+-- an address in range has a time, whose address it is
+pub there : (a : BlockAddress) → inRange a ≡ true → (t : Time) × (timeOf a ≡ pass t) × (addressOf t ≡ pass a)
+unfolding timeOf addressOf
+there a h = (clock (framesTo a), simp h, simp (clock-is-time (framesTo a) (frames a h .1), count-back, address-back a h))
+
+-- a time has an address, whose time it is
+pub back : (t : Time) → isTime t ≡ true → (a : BlockAddress) × (addressOf t ≡ pass a) × (timeOf a ≡ pass t)
+unfolding timeOf addressOf
+back t h = (addressAt (framesOf t), simp h, simp (range-back (framesOf t) (frames-small t h), frames-back, clock-back t h))
+
+no-time : (a : BlockAddress) → inRange a ≡ false → timeOf a ≡ refuse 15
+unfolding timeOf
+no-time a h = simp h
+
+no-address : (t : Time) → isTime t ≡ false → addressOf t ≡ refuse 15
+unfolding addressOf
+no-address t h = simp h
+
+-- both ways: t is the time of a just where a is the address of t
+pub time-address : (a : BlockAddress) (t : Time) → timeOf a ≡ pass t → addressOf t ≡ pass a
+time-address a t e =
+    known (inRange a)
+    (λ h. let w = there a h in let x : t ≡ w .0 = cc in rw x (w .2))
+    (λ h. let r : timeOf a ≡ refuse 15 = no-time a h in cc)
+
+pub address-time : (a : BlockAddress) (t : Time) → addressOf t ≡ pass a → timeOf a ≡ pass t
+address-time a t e =
+    known (isTime t)
+    (λ h. let w = back t h in let x : a ≡ w .0 = cc in rw x (w .2))
+    (λ h. let r : addressOf t ≡ refuse 15 = no-address t h in cc)

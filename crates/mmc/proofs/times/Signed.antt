@@ -1,0 +1,63 @@
+-- The facts on signed addresses that the proofs cite. Assumes nothing.
+use Prim.Native.Nat.{ℕ, suc, _+_, _-_, _<_, _≤_, _^_, _%_}
+use native.Mathlib.Omega.{arith}
+use native.Mathlib.Decide.{decLt}
+use mathlib.Core.Path.{_≡_, refl, sym, ap, _∙_}
+use mathlib.Core.Bool.{true, _&&_}
+use mathlib.Core.Logic.{_⊎_, inl, inr, ⊎-elim}
+use lib.IntN.{ℤ, pos, negsuc, _+ℤ_, _-ℤ_, natAbs, subℕ}
+use lib.Signed.{leZ}
+use borrow.Author.Tests.{le-ltb, lt-ltb, leb-true}
+use mir.Syntax.{w64}
+use mir.Val.{SFits, toZ, ofZ}
+use mir.Facts.{toZ-ofZ}
+use Rattle.mmc.specs.Times.{inRange, framesTo}
+use Rattle.mmc.specs.Commands.{twos}
+use Rattle.mmc.proofs.bytes.Steps.{both}
+use Rattle.mmc.specs.declared.units.BlockAddress.{BlockAddress}
+
+-- `z + k` at an i64, where it is the number n: it fits, and n is what is read back
+module _ (z : ℤ) (k n : ℕ) (s : SFits w64 z) (e : z +ℤ pos k ≡ pos n) (h : n < 2 ^ 63) where
+  pub sum-fits : SFits w64 (toZ w64 (ofZ w64 z) +ℤ pos k)
+  sum-fits = rw (toZ-ofZ s, e) (record { sfits = h })
+
+  pub sum-is : toZ w64 (ofZ w64 (toZ w64 (ofZ w64 z) +ℤ pos k)) ≡ pos n
+  sum-is = toZ-ofZ sum-fits ∙ rw (toZ-ofZ s, e)
+
+-- an address in range is a number from 0 on or one of -150 to -1
+sorted : (z : ℤ) → leZ (negsuc 149) z && leZ z (pos 449849) ≡ true → ((n : ℕ) × (z ≡ pos n) × (n ≤ 449849)) ⊎ ((n : ℕ) × (z ≡ negsuc n) × (n ≤ 149))
+sorted (pos n) h = inl (n, refl, leb-true n 449849 h)
+sorted (negsuc n) h = inr (n, refl, leb-true n 149 (both (leZ (negsuc 149) (negsuc n)) true h .0))
+
+-- k - (n + 1), where that is no less than 0
+minus : (k n : ℕ) → n < k → subℕ k (suc n) ≡ pos (k - suc n)
+minus k n h = simp (le-ltb k (suc n) h)
+
+-- the frames to an address in range: 450,000 of them
+pub frames : (a : BlockAddress) → inRange a ≡ true → (a .0 +ℤ pos 150 ≡ pos (framesTo a .0)) × (framesTo a .0 < 450000)
+unfolding inRange framesTo
+frames a h =
+    ⊎-elim
+    (λ w. rw (w .1) (refl, omega arith))
+    (λ w. rw (w .1) (let e = minus 150 (w .0) (omega arith) in (e ∙ ap (λ (x : ℤ). pos (natAbs x)) (sym e), rw e (omega arith))))
+    (sorted (a .0) h)
+
+-- an address in range with 2 ^ 32 added: its remainder by 2 ^ 32 is the address in two's complement
+abbrev pub raised : ℤ → ℕ
+raised z = natAbs (z +ℤ pos 4294967296)
+
+pub raise : (a : BlockAddress) → inRange a ≡ true → (a .0 +ℤ pos 4294967296 ≡ pos (raised (a .0))) × (raised (a .0) < 2 ^ 33) × (raised (a .0) % 4294967296 ≡ twos (a .0))
+unfolding inRange
+raise a h =
+    ⊎-elim
+    (λ w. rw (w .1) (refl, omega arith, omega arith))
+    (λ w. rw (w .1) (let e = minus 4294967296 (w .0) (omega arith) in (e ∙ ap (λ (x : ℤ). pos (natAbs x)) (sym e), rw e (omega arith), rw e (omega arith))))
+    (sorted (a .0) h)
+
+-- f - 150 by its two cases
+pub less : (f : ℕ) → Dec (f < 150) → ((f < 150) × (pos f -ℤ pos 150 ≡ negsuc (150 - suc f))) ⊎ ((150 ≤ f) × (pos f -ℤ pos 150 ≡ pos (f - 150)))
+less f (yes l) = inl (l, simp (lt-ltb f 150 l))
+less f (no n) = let g : 150 ≤ f = omega arith in inr (g, simp (le-ltb f 150 g))
+
+pub down-fits : (f : ℕ) → f < 2 ^ 32 → SFits w64 (pos f -ℤ pos 150)
+down-fits f h = ⊎-elim (λ w. rw (w .1) (record { sfits = omega arith })) (λ w. rw (w .1) (record { sfits = omega arith })) (less f (decLt f 150))

@@ -1,0 +1,79 @@
+-- Document 01's "Sheets from the bench" that concern this crate, as one statement about the definitions.
+use mathlib.Core.Path.{_≡_}
+use mathlib.Core.List.{List, [], _∷_, _++_}
+use mathlib.Core.Bool.{Bool, true, false}
+use Prim.Native.Nat.{ℕ, _-_}
+use lib.IntN.{ℤ, pos, negsuc}
+use lib.ListN.{take, replicate}
+use Rattle.mmc.specs.Refusals.{pass, refuse}
+use Rattle.mmc.specs.Order.{noTrack}
+use Rattle.mmc.specs.OrderBlock.{orderBytes, orderBlock, readOrder}
+use Rattle.mmc.specs.Times.{timeOf}
+use Rattle.mmc.specs.Page.{page}
+use Rattle.mmc.specs.Sheet.{sheetFault, cueSheet}
+use Rattle.mmc.specs.Commands.{writeCommand}
+use Rattle.mmc.specs.declared.units.BlockAddress.{BlockAddress}
+use Rattle.mmc.specs.declared.times.Time.{Time}
+use Rattle.mmc.specs.declared.order.Order.{Order}
+use Rattle.mmc.specs.declared.order.Track.{Track}
+use Rattle.mmc.specs.declared.order.Kind.{Kind}
+use Rattle.mmc.specs.declared.order.Kind.the-variants.{Audio, Data}
+use Rattle.mmc.specs.declared.order.Method.{Method}
+use Rattle.mmc.specs.declared.order.Method.the-variants.{Tao, Sao}
+
+-- ---- the orders and values that the sheets speak of
+
+abbrev pub track : Kind → ℕ → Track
+track k n = record { kind = k; length = record { 0 = n } }
+
+-- an order of the tracks given, of which it says that it has n
+abbrev pub order : Method → Bool → Bool → ℕ → List Track → Order
+order m keep protect n tracks = record { method = m; keep = keep; protect = protect; count = n; tracks = tracks }
+
+-- SAO, no flags, one data track
+abbrev pub oneData : ℕ → Order
+oneData l = order Sao false false 1 (track Data l ∷ replicate 98 noTrack)
+
+-- 99 audio tracks, of which it says that it has n
+abbrev pub counting : ℕ → Order
+counting n = order Sao false false n (replicate 99 (track Audio 300))
+
+abbrev pub address : ℤ → BlockAddress
+address z = record { 0 = z }
+
+abbrev pub time : ℕ → ℕ → ℕ → Time
+time m s f = record { minute = m; second = s; frame = f }
+
+-- ---- the sheets
+
+pub record BenchSheets : Type 0 where
+  -- SAO, no flags, one data track of 300
+  pub block : orderBlock (oneData 300) ≡ pass (0x01 ∷ 0x02 ∷ 0x00 ∷ 0x01 ∷ 0x01 ∷ 0x00 ∷ 0x00 ∷ 0x01 ∷ 0x2C ∷ replicate 501 0 ++ 0x00 ∷ 0x32 ∷ [])
+  -- track count 0 or 100: 3; 1 and 99 pass
+  pub none : readOrder (orderBytes (counting 0)) ≡ refuse 3
+  pub hundred : readOrder (orderBytes (counting 100)) ≡ refuse 3
+  pub one : readOrder (orderBytes (oneData 300)) ≡ pass (oneData 300)
+  pub ninety-nine : readOrder (orderBytes (counting 99)) ≡ pass (counting 99)
+  -- length 299: 9; length 300 passes
+  pub short : sheetFault (oneData 299) ≡ 9
+  pub long : sheetFault (oneData 300) ≡ 0
+  -- SAO with S 449,849 passes; 449,850: 10
+  pub fits : sheetFault (oneData 449849) ≡ 0
+  pub beyond : sheetFault (oneData 449850) ≡ 10
+  -- audio 300 and 450
+  pub sheet : cueSheet (order Sao false false 2 (track Audio 300 ∷ track Audio 450 ∷ replicate 97 noTrack))
+      ≡ pass (
+      (0x01 ∷ 0x00 ∷ 0x00 ∷ 0x01 ∷ 0x00 ∷ 0x00 ∷ 0x00 ∷ 0x00 ∷ [])
+      ++ (0x01 ∷ 0x01 ∷ 0x00 ∷ 0x00 ∷ 0x00 ∷ 0x00 ∷ 0x00 ∷ 0x00 ∷ [])
+      ++ (0x01 ∷ 0x01 ∷ 0x01 ∷ 0x00 ∷ 0x00 ∷ 0x00 ∷ 0x02 ∷ 0x00 ∷ [])
+      ++ (0x01 ∷ 0x02 ∷ 0x01 ∷ 0x00 ∷ 0x00 ∷ 0x00 ∷ 0x06 ∷ 0x00 ∷ [])
+      ++ (0x01 ∷ 0xAA ∷ 0x01 ∷ 0x01 ∷ 0x00 ∷ 0x00 ∷ 0x0C ∷ 0x00 ∷ []))
+  -- TAO data, keep, protected: page starts 05 32 41 C4 08
+  pub starts : take 5 (page (order Tao true true 1 (track Data 300 ∷ replicate 98 noTrack)) Data) ≡ 0x05 ∷ 0x32 ∷ 0x41 ∷ 0xC4 ∷ 0x08 ∷ []
+  -- -150 is 00:00:00, 0 is 00:02:00, 449,849 is 99:59:74; -151 is refused, 15
+  pub first-time : timeOf (address (negsuc 149)) ≡ pass (time 0 0 0)
+  pub zero-time : timeOf (address (pos 0)) ≡ pass (time 0 2 0)
+  pub last-time : timeOf (address (pos 449849)) ≡ pass (time 99 59 74)
+  pub no-time : timeOf (address (negsuc 150)) ≡ refuse 15
+  -- first SAO WRITE
+  pub write : writeCommand (address (negsuc 149)) (record { 0 = 16 }) ≡ pass (0x2A ∷ 0x00 ∷ 0xFF ∷ 0xFF ∷ 0xFF ∷ 0x6A ∷ 0x00 ∷ 0x00 ∷ 0x10 ∷ 0x00 ∷ [])

@@ -1,0 +1,11 @@
+pub mod Bytes
+pub mod Refusals
+pub mod Block
+pub mod Order
+pub mod OrderBlock
+pub mod ReplyBlock
+pub mod Times
+pub mod Page
+pub mod Sheet
+pub mod Commands
+pub mod Bench

@@ -1,0 +1,75 @@
+-- An order of tracks, and what is judged of it.
+use Prim.Native.Nat.{ℕ, _+_}
+use mathlib.Core.List.{List, [], _∷_}
+use mathlib.Core.Bool.{Bool, true, false, _&&_}
+use lib.ListN.{getD, take, drop, replicate}
+use lib.Dec.{eqb, leb}
+use Rattle.mmc.specs.declared.order.Order.{Order}
+use Rattle.mmc.specs.declared.order.Track.{Track}
+use Rattle.mmc.specs.declared.order.Kind.{Kind}
+use Rattle.mmc.specs.declared.order.Kind.the-variants.{Audio, Data}
+use Rattle.mmc.specs.declared.order.Method.{Method}
+use Rattle.mmc.specs.declared.order.Method.the-variants.{Tao, Sao}
+
+-- "the count n of tracks, 1 to 99"
+abbrev pub mostTracks : ℕ
+mostTracks = 99
+
+-- 9: "a track has fewer than 300 blocks"
+abbrev pub leastBlocks : ℕ
+leastBlocks = 300
+
+abbrev pub isAudio : Kind → Bool
+isAudio Audio = true
+isAudio Data = false
+
+abbrev pub isSao : Method → Bool
+isSao Tao = false
+isSao Sao = true
+
+-- a row that holds no track is all zeros
+abbrev pub noTrack : Track
+noTrack = record { kind = Audio; length = record { 0 = 0 } }
+
+abbrev pub isNone : Track → Bool
+isNone t = isAudio (t .kind) && eqb (t .length .0) 0
+
+unfoldable pub allNone : List Track → Bool
+allNone [] = true
+allNone (t ∷ ts) = isNone t && allNone ts
+
+-- what stands where there is no order
+unfoldable pub noOrder : Order
+noOrder = record { method = Tao; keep = false; protect = false; count = 0; tracks = replicate mostTracks noTrack }
+
+-- 3: an order has 1 to 99 tracks, and no track past them
+unfoldable pub validOrder : Order → Bool
+validOrder o = leb 1 (o .count) && (leb (o .count) mostTracks && allNone (drop (o .count) (o .tracks)))
+
+-- the ordered tracks
+abbrev pub tracksIn : Order → List Track
+tracksIn o = take (o .count) (o .tracks)
+
+abbrev pub sameKind : Kind → Kind → Bool
+sameKind Audio Audio = true
+sameKind Audio Data = false
+sameKind Data Audio = false
+sameKind Data Data = true
+
+-- the first track's kind
+abbrev pub orderKind : Order → Kind
+orderKind o = getD (o .tracks) 0 noTrack .kind
+
+-- "all audio or all data"
+unfoldable pub allKind : Kind → List Track → Bool
+allKind k [] = true
+allKind k (t ∷ ts) = sameKind k (t .kind) && allKind k ts
+
+unfoldable pub allLong : List Track → Bool
+allLong [] = true
+allLong (t ∷ ts) = leb leastBlocks (t .length .0) && allLong ts
+
+-- the sum of the lengths
+unfoldable pub blocksOf : List Track → ℕ
+blocksOf [] = 0
+blocksOf (t ∷ ts) = t .length .0 + blocksOf ts

@@ -1,0 +1,37 @@
+// What order blocks and reply blocks share: 512 bytes, the last two of which are their check.
+ghost use mathlib.Core.Path.{_≡_};
+ghost use mathlib.Core.List.{_++_};
+ghost use Prim.Native.Nat.{_≤_};
+ghost use lib.ListN.{length, take, drop};
+ghost use Rattle.mmc.specs.Block.{blockFault, sealed};
+ghost use Rattle.mmc.specs.Refusals.{faultIn};
+use crate::bytes::byte_sum;
+use crate::bytes::number16;
+use crate::bytes::put;
+use crate::refusals::Check;
+use crate::refusals::Refusal;
+
+// 1 for another length, then 2 for another check.
+pub(crate) fn check_block(b: &[u8]) -> Check
+    ensures { λ r. ⌜ faultIn r ≡ blockFault (now (b .entry)) ⌝ }
+{
+    if b.len() != 512 {
+        return Check::Refused(Refusal::BlockLength);
+    }
+    let sum = byte_sum(&b[0..510]) % 65536;
+    let held = number16(&b[510..]);
+    if held != sum {
+        return Check::Refused(Refusal::BlockCheck);
+    }
+    Check::Passed
+}
+
+// Writes bytes 510 and 511 of a block whose other bytes are written.
+pub(crate) fn put_check(out: &mut [u8])
+    requires { ⌜ length (now out) ≡ 512 ⌝ }
+    ensures { λ _. ⌜ now (out .exit) ≡ sealed (take 510 (now (out .entry))) ⌝ }
+{
+    let sum = byte_sum(&out[0..510]) % 65536;
+    let check = [(sum / 256) as u8, (sum % 256) as u8];
+    put(out, 510, &check);
+}

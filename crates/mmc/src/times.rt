@@ -1,0 +1,101 @@
+// Block addresses as minute, second and frame, and back.
+ghost use mathlib.Core.Path.{_≡_};
+ghost use mathlib.Core.Bool.{true};
+ghost use Prim.Native.Nat.{_<_};
+ghost use Rattle.mmc.specs.Times.{inRange, framesTo, addressAt, isTime, clock, framesOf, allFrames, GivesTime, GivesAddress};
+use crate::refusals::Refusal;
+use crate::units::BlockAddress;
+use crate::units::FrameCount;
+
+pub struct Time {
+    pub minute: u8,
+    pub second: u8,
+    pub frame: u8,
+}
+
+pub enum TimeAnswer {
+    At(Time),
+    Refused(Refusal),
+}
+
+pub enum AddressAnswer {
+    At(BlockAddress),
+    Refused(Refusal),
+}
+
+// The addresses that have a time.
+const FIRST_ADDRESS: i64 = -150;
+
+const LAST_ADDRESS: i64 = 449849;
+
+// Whether an address has a time.
+pub(crate) fn in_range(a: BlockAddress) -> bool
+    ensures { λ r. ⌜ r ≡ inRange a ⌝ }
+{
+    let z = a.0;
+    FIRST_ADDRESS <= z && z <= LAST_ADDRESS
+}
+
+// The frames to an address.
+fn frames_to(a: BlockAddress) -> FrameCount
+    requires { ⌜ inRange a ≡ true ⌝ }
+    ensures { λ r. ⌜ r ≡ framesTo a ⌝ }
+{
+    FrameCount((a.0 + 150) as u32)
+}
+
+// The address at a count of frames.
+pub fn address_at(f: FrameCount) -> BlockAddress
+    ensures { λ r. ⌜ r ≡ addressAt f ⌝ }
+{
+    BlockAddress(f.0 as i64 - 150)
+}
+
+// A count of frames as a time.
+pub(crate) fn clock_of(f: FrameCount) -> Time
+    requires { ⌜ f .0 < allFrames ⌝ }
+    ensures { λ r. ⌜ r ≡ clock f ⌝ }
+{
+    let s = f.0 / 75;
+    Time {
+        minute: (s / 60) as u8,
+        second: (s % 60) as u8,
+        frame: (f.0 % 75) as u8,
+    }
+}
+
+// Whether minute, second and frame are a time.
+fn is_time(t: Time) -> bool
+    ensures { λ r. ⌜ r ≡ isTime t ⌝ }
+{
+    t.minute <= 99 && (t.second <= 59 && t.frame <= 74)
+}
+
+// A time as a count of frames.
+pub(crate) fn frames_of(t: Time) -> FrameCount
+    ensures { λ r. ⌜ r ≡ framesOf t ⌝ }
+{
+    FrameCount(((t.minute as u32) * 60 + (t.second as u32)) * 75 + (t.frame as u32))
+}
+
+// The time of an address: 15 for one outside -150 to 449,849.
+pub fn time_of(a: BlockAddress) -> TimeAnswer
+    ensures { λ r. ⌜ GivesTime a r ⌝ }
+{
+    if in_range(a) {
+        TimeAnswer::At(clock_of(frames_to(a)))
+    } else {
+        TimeAnswer::Refused(Refusal::OutOfRange)
+    }
+}
+
+// The address of a time: 15 for what is no time.
+pub fn address_of(t: Time) -> AddressAnswer
+    ensures { λ r. ⌜ GivesAddress t r ⌝ }
+{
+    if is_time(t) {
+        AddressAnswer::At(address_at(frames_of(t)))
+    } else {
+        AddressAnswer::Refused(Refusal::OutOfRange)
+    }
+}
