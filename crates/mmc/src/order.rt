@@ -103,7 +103,8 @@ pub fn is_valid(o: Order) -> bool
     rest_none(o)
 }
 
-pub(crate) fn is_sao(m: Method) -> bool
+// Whether the method is session at once.
+pub fn is_sao(m: Method) -> bool
     ensures { λ r. ⌜ r ≡ isSao m ⌝ }
 {
     match m {

@@ -1,0 +1,14 @@
+pub mod Bench
+pub mod Lists
+pub mod Scripts
+pub mod Tests
+pub mod Rulings
+pub mod Goods
+pub mod Witness
+pub mod Seen
+pub mod Places
+pub mod Follows
+pub mod Orders
+pub mod Fresh
+pub mod Steps
+pub mod Histories

@@ -1,0 +1,5 @@
+// The recorder of CD-R and CD-RW: an order is taken, then one reply of the drive at a time, and each call
+// gives the next state with a command or an end.
+pub mod job;
+pub mod replies;
+mod rules;

@@ -1,0 +1,192 @@
+//! Compares two programs and stops at the first difference:
+//!
+//! - `compare PROGRAM_A PROGRAM_B DIR` feeds every job file (`*.bin`) in a
+//!   folder to two print programs
+//! - `compare --lines PROGRAM_A PROGRAM_B FILE` feeds a file of requests once
+//!   to two layouts tools and compares answer by answer
+//!
+//! A program is a file's path, or words parted by spaces: a program and its
+//! arguments.
+
+use second::text::{clip, write_text};
+use std::fs::{self, File};
+use std::io::{self, BufReader};
+use std::path::{Path, PathBuf};
+use std::process::{Command, ExitCode, Stdio};
+
+const USAGE: &str = "usage: compare PROGRAM_A PROGRAM_B DIR
+       compare --lines PROGRAM_A PROGRAM_B FILE";
+/// Progress is told after this many jobs.
+const PROGRESS: usize = 500;
+/// A job's text is shown up to this many lines, each up to this wide.
+const MOST_LINES: usize = 60;
+const WIDTH: usize = 120;
+
+fn main() -> ExitCode {
+    let words: Vec<String> = std::env::args().skip(1).collect();
+    let words: Vec<&str> = words.iter().map(String::as_str).collect();
+    let result = match words.as_slice() {
+        ["--lines", a, b, file] => compare_lines(a, b, Path::new(file)),
+        [a, b, dir] => compare_jobs(a, b, Path::new(dir)),
+        _ => Err(USAGE.to_string()),
+    };
+    match result {
+        Ok(true) => ExitCode::SUCCESS,
+        Ok(false) => ExitCode::FAILURE,
+        Err(error) => {
+            eprintln!("{error}");
+            ExitCode::from(2)
+        }
+    }
+}
+
+/// A program's whole output for an input file.
+fn output_of(program: &str, input: &Path) -> Result<Vec<u8>, String> {
+    let fault = |error: io::Error| format!("{program}: {error}");
+    let input = File::open(input).map_err(|error| format!("{}: {error}", input.display()))?;
+    let output = command(program)?
+        .stdin(Stdio::from(input))
+        .stderr(Stdio::inherit())
+        .output()
+        .map_err(fault)?;
+    match output.status.code() {
+        Some(_) => Ok(output.stdout),
+        None => Err(format!("{program}: ended by a signal")),
+    }
+}
+
+fn command(program: &str) -> Result<Command, String> {
+    if Path::new(program).is_file() {
+        return Ok(Command::new(program));
+    }
+    let mut words = program.split_whitespace();
+    let mut command = Command::new(words.next().ok_or("no program is named")?);
+    command.args(words);
+    Ok(command)
+}
+
+/// The first line, counted from 1, in which two outputs differ.
+fn first_difference(a: &[u8], b: &[u8]) -> Option<(usize, String, String)> {
+    if a == b {
+        return None;
+    }
+    let (a, b) = (lines_of(a), lines_of(b));
+    let line =
+        |lines: &[String], at: usize| lines.get(at).cloned().unwrap_or("(no line)".to_string());
+    let at = (0..a.len().max(b.len())).find(|&at| a.get(at) != b.get(at))?;
+    Some((at + 1, line(&a, at), line(&b, at)))
+}
+
+/// The lines, each with its line feed where it has one.
+fn lines_of(output: &[u8]) -> Vec<String> {
+    let lines = output.split_inclusive(|&byte| byte == b'\n');
+    lines
+        .map(|line| String::from_utf8_lossy(line).escape_debug().to_string())
+        .collect()
+}
+
+// ---- jobs ----
+
+fn compare_jobs(a: &str, b: &str, dir: &Path) -> Result<bool, String> {
+    let files = job_files(dir)?;
+    for (done, file) in files.iter().enumerate() {
+        if done > 0 && done % PROGRESS == 0 {
+            eprintln!("{done} of {} jobs", files.len());
+        }
+        let [out_a, out_b] = [output_of(a, file), output_of(b, file)];
+        let (out_a, out_b) = match (out_a, out_b) {
+            (Ok(out_a), Ok(out_b)) => (out_a, out_b),
+            (Err(error), _) | (_, Err(error)) => {
+                describe(dir, file);
+                return Err(error);
+            }
+        };
+        if let Some((number, line_a, line_b)) = first_difference(&out_a, &out_b) {
+            describe(dir, file);
+            println!("line {number} differs:\n  {a}: {line_a}\n  {b}: {line_b}");
+            println!("{} jobs, 1 difference", done + 1);
+            return Ok(false);
+        }
+        if !is_whole(&out_a) {
+            describe(dir, file);
+            println!("both outputs lack a last line of done, stop or waiting");
+            return Ok(false);
+        }
+    }
+    println!("{} jobs, 0 differences", files.len());
+    Ok(true)
+}
+
+fn job_files(dir: &Path) -> Result<Vec<PathBuf>, String> {
+    let fault = |error: io::Error| format!("{}: {error}", dir.display());
+    let mut files = Vec::new();
+    for entry in fs::read_dir(dir).map_err(fault)? {
+        let path = entry.map_err(fault)?.path();
+        if path.extension().is_some_and(|extension| extension == "bin") {
+            files.push(path);
+        }
+    }
+    if files.is_empty() {
+        return Err(format!("{}: no job files", dir.display()));
+    }
+    files.sort();
+    Ok(files)
+}
+
+/// An output ends with a whole line of done, stop or waiting.
+fn is_whole(output: &[u8]) -> bool {
+    let output = String::from_utf8_lossy(output);
+    let last = output.lines().last().unwrap_or("");
+    let known = ["done ", "stop ", "waiting "];
+    output.ends_with('\n') && known.iter().any(|word| last.starts_with(word))
+}
+
+/// Prints a job's name, its line in the index, and its text.
+fn describe(dir: &Path, file: &Path) {
+    let name = file.file_name().unwrap_or_default().to_string_lossy();
+    println!("job {name}");
+    let index = fs::read_to_string(dir.join("index.txt")).unwrap_or_default();
+    let mut entries = index.lines().filter_map(|line| line.split_once('\t'));
+    if let Some((_, shows)) = entries.find(|(entry, _)| *entry == name) {
+        println!("  {shows}");
+    }
+    let mut text = Vec::new();
+    let written = File::open(file).and_then(|file| write_text(BufReader::new(file), &mut text));
+    if let Err(error) = written {
+        println!("  {error}");
+    }
+    let text = String::from_utf8_lossy(&text);
+    for line in text.lines().take(MOST_LINES) {
+        println!("  {}", clip(line, WIDTH));
+    }
+    let more = text.lines().count().saturating_sub(MOST_LINES);
+    if more > 0 {
+        println!("  ({more} more lines)");
+    }
+}
+
+// ---- requests ----
+
+fn compare_lines(a: &str, b: &str, file: &Path) -> Result<bool, String> {
+    let requests = fs::read(file).map_err(|error| format!("{}: {error}", file.display()))?;
+    let requests = lines_of(&requests);
+    if requests.is_empty() {
+        return Err(format!("{}: no requests", file.display()));
+    }
+    let (out_a, out_b) = (output_of(a, file)?, output_of(b, file)?);
+    if let Some((number, line_a, line_b)) = first_difference(&out_a, &out_b) {
+        let none = "(no request)".to_string();
+        let request = requests.get(number - 1).unwrap_or(&none);
+        println!("request {number}: {request}");
+        println!("  {a}: {line_a}\n  {b}: {line_b}");
+        println!("{} lines, 1 difference", number);
+        return Ok(false);
+    }
+    let answers = lines_of(&out_a).len();
+    if answers != requests.len() {
+        println!("{} requests, but {answers} answers of both", requests.len());
+        return Ok(false);
+    }
+    println!("{} lines, 0 differences", requests.len());
+    Ok(true)
+}

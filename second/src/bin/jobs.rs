@@ -1,0 +1,111 @@
+//! Makes jobs and layout requests for comparison:
+//!
+//! - `jobs random SEED COUNT DIR`: random job files and their index
+//! - `jobs corners DIR`: the fixed corner jobs and their index
+//! - `jobs layouts SEED COUNT`: random requests for the layouts tool
+//! - `jobs layout-corners`: the fixed list of requests
+
+use second::rng::Rng;
+use second::{corners, random, requests};
+use std::fs;
+use std::io::{self, stdout, BufWriter, Write};
+use std::path::Path;
+use std::process::ExitCode;
+
+const USAGE: &str = "usage: jobs random SEED COUNT DIR
+       jobs corners DIR
+       jobs layouts SEED COUNT
+       jobs layout-corners";
+
+fn main() -> ExitCode {
+    let words: Vec<String> = std::env::args().skip(1).collect();
+    let words: Vec<&str> = words.iter().map(String::as_str).collect();
+    match run(&words) {
+        Ok(()) => ExitCode::SUCCESS,
+        Err(error) => {
+            eprintln!("{error}");
+            ExitCode::FAILURE
+        }
+    }
+}
+
+fn run(words: &[&str]) -> Result<(), String> {
+    let result = match words {
+        ["random", seed, count, dir] => random_jobs(number(seed)?, number(count)?, Path::new(dir)),
+        ["corners", dir] => corner_jobs(Path::new(dir)),
+        ["layouts", seed, count] => random_requests(number(seed)?, number(count)?),
+        ["layout-corners"] => corner_requests(),
+        _ => return Err(USAGE.to_string()),
+    };
+    result.map_err(|error| error.to_string())
+}
+
+fn number(word: &str) -> Result<u64, String> {
+    word.parse()
+        .map_err(|_| format!("`{word}` is no number\n{USAGE}"))
+}
+
+fn random_jobs(seed: u64, count: u64, dir: &Path) -> io::Result<()> {
+    let mut folder = Folder::open(dir)?;
+    for number in 1..=count {
+        // Each job has its own generator, so that one can be made again.
+        let mut rng = Rng::new(seed.wrapping_mul(1_000_003).wrapping_add(number));
+        let made = random::job(&mut rng);
+        folder.add(
+            &format!("random-{seed}-{number:06}"),
+            &made.shows,
+            &made.bytes,
+        )?;
+    }
+    folder.close()
+}
+
+fn corner_jobs(dir: &Path) -> io::Result<()> {
+    let mut folder = Folder::open(dir)?;
+    for corner in corners::corners() {
+        let shows = format!("{} (ends with `{}`)", corner.shows, corner.ends);
+        folder.add(&corner.name, &shows, &corner.bytes)?;
+    }
+    folder.close()
+}
+
+/// A folder of job files with an index: file name, tab, description.
+struct Folder<'a> {
+    dir: &'a Path,
+    index: BufWriter<fs::File>,
+}
+
+impl<'a> Folder<'a> {
+    fn open(dir: &'a Path) -> io::Result<Folder<'a>> {
+        fs::create_dir_all(dir)?;
+        let index = BufWriter::new(fs::File::create(dir.join("index.txt"))?);
+        Ok(Folder { dir, index })
+    }
+
+    fn add(&mut self, name: &str, shows: &str, bytes: &[u8]) -> io::Result<()> {
+        let file = format!("{name}.bin");
+        fs::write(self.dir.join(&file), bytes)?;
+        writeln!(self.index, "{file}\t{shows}")
+    }
+
+    fn close(mut self) -> io::Result<()> {
+        self.index.flush()
+    }
+}
+
+fn random_requests(seed: u64, count: u64) -> io::Result<()> {
+    let mut rng = Rng::new(seed);
+    print_lines((0..count).map(|_| requests::random(&mut rng)))
+}
+
+fn corner_requests() -> io::Result<()> {
+    print_lines(requests::corners().into_iter())
+}
+
+fn print_lines(lines: impl Iterator<Item = String>) -> io::Result<()> {
+    let mut output = BufWriter::with_capacity(1 << 16, stdout().lock());
+    for line in lines {
+        writeln!(output, "{line}")?;
+    }
+    output.flush()
+}

@@ -1,0 +1,155 @@
+//! The bytes of the eight commands.
+
+use crate::refusal::{require, Refusal};
+use crate::units::{Address, BlockCount, TrackNumber, FIRST_ADDRESS, LAST_ADDRESS};
+
+/// All commands have 10 bytes.
+pub type Bytes = [u8; 10];
+
+pub const GET_CONFIGURATION: u8 = 0x46;
+pub const READ_DISC_INFORMATION: u8 = 0x51;
+pub const READ_TRACK_INFORMATION: u8 = 0x52;
+pub const MODE_SELECT: u8 = 0x55;
+pub const SEND_CUE_SHEET: u8 = 0x5D;
+pub const WRITE: u8 = 0x2A;
+pub const SYNCHRONIZE_CACHE: u8 = 0x35;
+pub const CLOSE_TRACK_SESSION: u8 = 0x5B;
+
+pub const CLOSE_TRACK: u8 = 1;
+pub const CLOSE_SESSION: u8 = 2;
+
+/// A WRITE takes at most this many blocks.
+pub const MOST_BLOCKS: u64 = 16;
+
+/// A command of an operation code with a length in bytes 7 and 8.
+fn with_length(code: u8, length: u16) -> Bytes {
+    let mut bytes = [0; 10];
+    bytes[0] = code;
+    bytes[7..9].copy_from_slice(&length.to_be_bytes());
+    bytes
+}
+
+pub fn get_configuration() -> Bytes {
+    with_length(GET_CONFIGURATION, 8)
+}
+
+pub fn read_disc_information() -> Bytes {
+    with_length(READ_DISC_INFORMATION, 34)
+}
+
+pub fn read_track_information() -> Bytes {
+    let mut bytes = with_length(READ_TRACK_INFORMATION, 48);
+    bytes[1] = 0x01;
+    bytes[5] = 0xFF;
+    bytes
+}
+
+pub fn mode_select() -> Bytes {
+    let mut bytes = with_length(MODE_SELECT, 60);
+    bytes[1] = 0x10;
+    bytes
+}
+
+/// The length in bytes is 8 times 4 to 102, else 15.
+pub fn send_cue_sheet(length: u64) -> Result<Bytes, Refusal> {
+    let valid = length.is_multiple_of(8) && (4..=102).contains(&(length / 8));
+    require(valid, Refusal::Range)?;
+    // Three bytes hold the length; the first of them, byte 6, stays 0.
+    Ok(with_length(SEND_CUE_SHEET, length as u16))
+}
+
+/// The address is -150 to 449,849 and the count 1 to 16, else 15.
+pub fn write(address: Address, count: BlockCount) -> Result<Bytes, Refusal> {
+    let valid =
+        (FIRST_ADDRESS..=LAST_ADDRESS).contains(&address.0) && (1..=MOST_BLOCKS).contains(&count.0);
+    require(valid, Refusal::Range)?;
+    let mut bytes = with_length(WRITE, count.0 as u16);
+    bytes[2..6].copy_from_slice(&(address.0 as i32).to_be_bytes());
+    Ok(bytes)
+}
+
+pub fn synchronize_cache() -> Bytes {
+    with_length(SYNCHRONIZE_CACHE, 0)
+}
+
+/// The function is 1 or 2, else 15; any 16-bit track passes.
+pub fn close_track_session(function: u8, track: TrackNumber) -> Result<Bytes, Refusal> {
+    require(
+        function == CLOSE_TRACK || function == CLOSE_SESSION,
+        Refusal::Range,
+    )?;
+    let mut bytes = with_length(CLOSE_TRACK_SESSION, 0);
+    bytes[2] = function;
+    bytes[4..6].copy_from_slice(&track.0.to_be_bytes());
+    Ok(bytes)
+}
+
+#[cfg(test)]
+mod tests {
+    use super::*;
+    use crate::hex::plain;
+
+    #[test]
+    fn fixed_commands() {
+        assert_eq!(plain(&get_configuration()), "46 00 00 00 00 00 00 00 08 00");
+        assert_eq!(
+            plain(&read_disc_information()),
+            "51 00 00 00 00 00 00 00 22 00"
+        );
+        assert_eq!(
+            plain(&read_track_information()),
+            "52 01 00 00 00 FF 00 00 30 00"
+        );
+        assert_eq!(plain(&mode_select()), "55 10 00 00 00 00 00 00 3C 00");
+        assert_eq!(plain(&synchronize_cache()), "35 00 00 00 00 00 00 00 00 00");
+    }
+
+    /// Bench sheet: first SAO WRITE.
+    #[test]
+    fn bench_write() {
+        let bytes = write(Address(-150), BlockCount(16)).unwrap();
+        assert_eq!(plain(&bytes), "2A 00 FF FF FF 6A 00 00 10 00");
+    }
+
+    #[test]
+    fn write_ranges() {
+        let passes = |address, count| write(Address(address), BlockCount(count)).is_ok();
+        assert!(passes(449_849, 16) && passes(0, 1));
+        for (address, count) in [(-151, 1), (449_850, 1), (0, 0), (0, 17), (i64::MIN, 1)] {
+            assert!(!passes(address, count));
+        }
+        let bytes = write(Address(449_849), BlockCount(1)).unwrap();
+        assert_eq!(plain(&bytes), "2A 00 00 06 DD 39 00 00 01 00");
+    }
+
+    #[test]
+    fn cue_sheet_lengths() {
+        for length in 0..=1_000 {
+            let entries = length / 8;
+            let valid = length == 8 * entries && (4..=102).contains(&entries);
+            assert_eq!(send_cue_sheet(length).is_ok(), valid);
+        }
+        let bytes = send_cue_sheet(816).unwrap();
+        assert_eq!(plain(&bytes), "5D 00 00 00 00 00 00 03 30 00");
+        assert_eq!(send_cue_sheet(65_536 + 32), Err(Refusal::Range));
+    }
+
+    #[test]
+    fn close_functions() {
+        let close = |function, track| close_track_session(function, TrackNumber(track));
+        assert_eq!(
+            plain(&close(1, 0xFF).unwrap()),
+            "5B 00 01 00 00 FF 00 00 00 00"
+        );
+        assert_eq!(
+            plain(&close(2, 0).unwrap()),
+            "5B 00 02 00 00 00 00 00 00 00"
+        );
+        assert_eq!(
+            plain(&close(2, 0xABCD).unwrap()),
+            "5B 00 02 00 AB CD 00 00 00 00"
+        );
+        assert_eq!(close(0, 0), Err(Refusal::Range));
+        assert_eq!(close(3, 0), Err(Refusal::Range));
+    }
+}

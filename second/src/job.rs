@@ -1,0 +1,646 @@
+//! The plain job of document 01, "Recording rules": an order is taken, then
+//! replies are given; each time a command, the end as done, or a refusal
+//! comes out.
+//!
+//! The job is a flat list of steps with a place in it. The three opening
+//! steps stand there from the start; the others are laid down once the third
+//! reply has passed the checks, so that the list stays short.
+
+use crate::blocks::{read_order, Reply, Status};
+use crate::commands::{self, Bytes, CLOSE_SESSION, CLOSE_TRACK, MOST_BLOCKS};
+use crate::refusal::{require, Refusal};
+use crate::replies::{self, Disc, Failure, TrackInformation};
+use crate::sheet::{ENTRY, MORE_ENTRIES};
+use crate::units::{
+    check_lead_out, Address, BlockCount, Method, Order, TrackNumber, FIRST_ADDRESS,
+};
+
+/// The pause ahead of track 1 in SAO.
+const PAUSE: u64 = 150;
+/// 5Bh function 1 closes the track with this number.
+const INVISIBLE_TRACK: TrackNumber = TrackNumber(0xFF);
+
+/// The blocks a WRITE takes: of track 0 (the pause) or a track from 1, from
+/// this first block, counted from 0.
+#[derive(Clone, Copy, PartialEq, Eq, Debug)]
+pub struct Blocks {
+    pub track: TrackNumber,
+    pub first: BlockCount,
+    pub count: BlockCount,
+}
+
+/// A command is its bytes and, for a WRITE, its track, first block and count.
+#[derive(Clone, Copy, PartialEq, Eq, Debug)]
+pub struct Command {
+    pub bytes: Bytes,
+    pub blocks: Option<Blocks>,
+}
+
+#[derive(Clone, Copy, PartialEq, Eq, Debug)]
+pub enum Answer {
+    Command(Command),
+    Done,
+    Refused(Refusal),
+}
+
+#[derive(Clone, Copy, PartialEq, Eq, Debug)]
+enum Step {
+    GetConfiguration,
+    ReadDiscInformation,
+    /// 52h ahead of the track with this index.
+    ReadTrackInformation(usize),
+    ModeSelect,
+    SendCueSheet,
+    Write(Blocks),
+    SynchronizeCache,
+    CloseTrack,
+    CloseSession,
+}
+
+const OPENING: [Step; 3] = [
+    Step::GetConfiguration,
+    Step::ReadDiscInformation,
+    Step::ReadTrackInformation(0),
+];
+
+#[derive(Clone, Debug)]
+pub struct Job {
+    /// None: the order was refused as 1 to 3.
+    order: Option<Order>,
+    steps: Vec<Step>,
+    place: usize,
+    ended: bool,
+    /// Fields read from 46h and 51h.
+    profile: u16,
+    disc: Disc,
+    /// Where the next WRITE starts: at the address of the latest 52h in TAO,
+    /// at -150 in SAO, afterwards where the last good WRITE ended.
+    address: Address,
+    /// Commands given, repeats too.
+    count: u64,
+}
+
+impl Job {
+    /// Takes an order block. An order that 1 to 3 refuse gives no command.
+    pub fn take(order_block: &[u8]) -> (Job, Answer) {
+        match read_order(order_block) {
+            Ok(order) => {
+                let mut job = Job::new(Some(order));
+                let answer = job.command();
+                (job, answer)
+            }
+            Err(refusal) => {
+                let mut job = Job::new(None);
+                let answer = job.end(Answer::Refused(refusal));
+                (job, answer)
+            }
+        }
+    }
+
+    fn new(order: Option<Order>) -> Job {
+        Job {
+            order,
+            steps: OPENING.to_vec(),
+            place: 0,
+            ended: false,
+            profile: 0,
+            disc: Disc::Other,
+            address: Address(FIRST_ADDRESS),
+            count: 0,
+        }
+    }
+
+    /// The number of commands given since the order was taken.
+    pub fn count(&self) -> u64 {
+        self.count
+    }
+
+    pub fn ended(&self) -> bool {
+        self.ended
+    }
+
+    /// Gives one reply: one step of the plain job.
+    pub fn give(&mut self, reply: &Reply) -> Answer {
+        if self.ended {
+            return Answer::Refused(Refusal::Ended);
+        }
+        match reply.status {
+            Status::Failed => self.failed(&reply.data),
+            Status::Good => self.good(&reply.data),
+        }
+    }
+
+    /// Busy: the same command again. Failed otherwise: the end, 12.
+    fn failed(&mut self, data: &[u8]) -> Answer {
+        match replies::failure(data) {
+            Failure::Busy => self.command(),
+            Failure::Stop(sense) => self.end(Answer::Refused(Refusal::Failed(sense))),
+        }
+    }
+
+    /// Good: the end with the number judged there, else the next command,
+    /// after the last one the end as done.
+    fn good(&mut self, data: &[u8]) -> Answer {
+        if let Err(refusal) = self.judge(data) {
+            return self.end(Answer::Refused(refusal));
+        }
+        self.place += 1;
+        if self.place < self.steps.len() {
+            self.command()
+        } else {
+            self.end(Answer::Done)
+        }
+    }
+
+    fn end(&mut self, answer: Answer) -> Answer {
+        self.ended = true;
+        answer
+    }
+
+    /// Reads and judges the good reply to the step at the job's place. The
+    /// data of a reply to a data-less command is ignored.
+    fn judge(&mut self, data: &[u8]) -> Result<(), Refusal> {
+        match self.steps[self.place] {
+            Step::GetConfiguration => self.profile = replies::profile(data)?,
+            Step::ReadDiscInformation => self.disc = replies::disc(data)?,
+            Step::ReadTrackInformation(index) => {
+                let info = replies::track_information(data)?;
+                self.judge_track(index, info)?;
+            }
+            Step::Write(blocks) => self.address = self.address.after(blocks.count),
+            _ => {}
+        }
+        Ok(())
+    }
+
+    /// After the third reply 5 to 10, at a later 52h 7 and 10.
+    fn judge_track(&mut self, index: usize, info: TrackInformation) -> Result<(), Refusal> {
+        let Some(order) = &self.order else {
+            return Err(Refusal::Field);
+        };
+        if index == 0 {
+            check_profile(self.profile)?;
+            check_disc(order.method, self.disc)?;
+            check_usable(order.method, info, None)?;
+            order.check_session()?;
+            order.check_lengths()?;
+        } else {
+            check_usable(order.method, info, Some(self.address))?;
+        }
+        check_fit(order, index, info)?;
+        self.address = start(order.method, info);
+        if index == 0 {
+            self.steps.extend(recording(order));
+        }
+        Ok(())
+    }
+
+    /// Gives the command at the job's place.
+    fn command(&mut self) -> Answer {
+        let step = self.steps[self.place];
+        match self.bytes(step) {
+            Ok(bytes) => {
+                self.count = self.count.saturating_add(1);
+                let blocks = match step {
+                    Step::Write(blocks) => Some(blocks),
+                    _ => None,
+                };
+                Answer::Command(Command { bytes, blocks })
+            }
+            // The checks keep every number within its maker's range.
+            Err(refusal) => self.end(Answer::Refused(refusal)),
+        }
+    }
+
+    fn bytes(&self, step: Step) -> Result<Bytes, Refusal> {
+        Ok(match step {
+            Step::GetConfiguration => commands::get_configuration(),
+            Step::ReadDiscInformation => commands::read_disc_information(),
+            Step::ReadTrackInformation(_) => commands::read_track_information(),
+            Step::ModeSelect => commands::mode_select(),
+            Step::SendCueSheet => commands::send_cue_sheet(self.sheet_length())?,
+            Step::Write(blocks) => commands::write(self.address, blocks.count)?,
+            Step::SynchronizeCache => commands::synchronize_cache(),
+            Step::CloseTrack => commands::close_track_session(CLOSE_TRACK, INVISIBLE_TRACK)?,
+            Step::CloseSession => commands::close_track_session(CLOSE_SESSION, TrackNumber(0))?,
+        })
+    }
+
+    fn sheet_length(&self) -> u64 {
+        let tracks = self.order.as_ref().map_or(0, |order| order.tracks.len());
+        (ENTRY * (tracks + MORE_ENTRIES)) as u64
+    }
+}
+
+/// Number 5.
+fn check_profile(profile: u16) -> Result<(), Refusal> {
+    require(profile == 0x0009 || profile == 0x000A, Refusal::Profile)
+}
+
+/// Number 6: TAO needs blank or appendable, SAO needs blank.
+fn check_disc(method: Method, disc: Disc) -> Result<(), Refusal> {
+    let suitable = match method {
+        Method::Tao => disc == Disc::Blank || disc == Disc::Appendable,
+        Method::Sao => disc == Disc::Blank,
+    };
+    require(suitable, Refusal::DiscStatus)
+}
+
+/// Number 7: Damage set; or, in TAO, NWA_V clear or an address below the end
+/// of the job's previous track.
+fn check_usable(
+    method: Method,
+    info: TrackInformation,
+    previous_end: Option<Address>,
+) -> Result<(), Refusal> {
+    require(!info.damage, Refusal::TrackInformation)?;
+    if method == Method::Tao {
+        require(info.address_valid, Refusal::TrackInformation)?;
+        let stale = previous_end.is_some_and(|end| info.next_writable < end);
+        require(!stale, Refusal::TrackInformation)?;
+    }
+    Ok(())
+}
+
+/// Number 10: S is at most Free Blocks, and the lead-out at most 449,849. In
+/// TAO the lead-out stands at the Next Writable Address plus S, in SAO at S.
+fn check_fit(order: &Order, index: usize, info: TrackInformation) -> Result<(), Refusal> {
+    let blocks = order.blocks_from(index);
+    require(blocks <= info.free, Refusal::Fit)?;
+    let base = match order.method {
+        Method::Tao => info.next_writable,
+        Method::Sao => Address(0),
+    };
+    check_lead_out(base.after(blocks))
+}
+
+/// Where the first WRITE after a 52h starts.
+fn start(method: Method, info: TrackInformation) -> Address {
+    match method {
+        Method::Tao => info.next_writable,
+        Method::Sao => Address(FIRST_ADDRESS),
+    }
+}
+
+/// All steps after the opening.
+fn recording(order: &Order) -> Vec<Step> {
+    match order.method {
+        Method::Tao => tao(order),
+        Method::Sao => sao(order),
+    }
+}
+
+/// TAO, each track: 52h before each but the first; 55h; WRITEs; 35h; 5Bh
+/// function 1. After the last track: 5Bh function 2.
+fn tao(order: &Order) -> Vec<Step> {
+    let mut steps = Vec::new();
+    for (index, track) in order.tracks.iter().enumerate() {
+        if index > 0 {
+            steps.push(Step::ReadTrackInformation(index));
+        }
+        steps.push(Step::ModeSelect);
+        steps.extend(writes(number(index), track.length.into()));
+        steps.push(Step::SynchronizeCache);
+        steps.push(Step::CloseTrack);
+    }
+    steps.push(Step::CloseSession);
+    steps
+}
+
+/// SAO: 55h; 5Dh; WRITEs of the pause; the tracks; 35h.
+fn sao(order: &Order) -> Vec<Step> {
+    let mut steps = vec![Step::ModeSelect, Step::SendCueSheet];
+    steps.extend(writes(TrackNumber(0), PAUSE));
+    for (index, track) in order.tracks.iter().enumerate() {
+        steps.extend(writes(number(index), track.length.into()));
+    }
+    steps.push(Step::SynchronizeCache);
+    steps
+}
+
+fn number(index: usize) -> TrackNumber {
+    TrackNumber(index as u16 + 1)
+}
+
+/// A WRITE takes the lesser of 16 and what is left of its pause or track.
+fn writes(track: TrackNumber, length: u64) -> impl Iterator<Item = Step> {
+    (0..length).step_by(MOST_BLOCKS as usize).map(move |first| {
+        let count = BlockCount(MOST_BLOCKS.min(length - first));
+        let first = BlockCount(first);
+        Step::Write(Blocks {
+            track,
+            first,
+            count,
+        })
+    })
+}
+
+#[cfg(test)]
+mod tests {
+    use super::*;
+    use crate::blocks::order_block;
+    use crate::hex::plain;
+    use crate::refusal::Sense;
+    use crate::text::order_of;
+    use crate::wellformed::{disc_reply, profile_reply, sense_reply, track_reply, TrackFields};
+
+    fn take(line: &str) -> (Job, Answer) {
+        Job::take(&order_block(&order_of(line).unwrap()).unwrap())
+    }
+
+    fn track(next_writable: u32, free: u32) -> Reply {
+        track_reply(TrackFields {
+            next_writable,
+            free,
+            damaged: false,
+            address_valid: true,
+        })
+    }
+
+    fn opening(disc: u8, third: Reply) -> Vec<Reply> {
+        vec![profile_reply(9), disc_reply(disc), third]
+    }
+
+    fn give_all(job: &mut Job, replies: &[Reply]) -> Answer {
+        let mut answer = Answer::Done;
+        for reply in replies {
+            answer = job.give(reply);
+        }
+        answer
+    }
+
+    /// Answers all good; 52h replies come from the list. Gives the last
+    /// answer and every WRITE with its address.
+    fn run(line: &str, disc: u8, infos: &[Reply]) -> (Job, Answer, Vec<(i32, Blocks)>) {
+        let (mut job, mut answer) = take(line);
+        let mut infos = infos.iter();
+        let mut writes = Vec::new();
+        while let Answer::Command(command) = answer {
+            let reply = match command.bytes[0] {
+                commands::GET_CONFIGURATION => profile_reply(9),
+                commands::READ_DISC_INFORMATION => disc_reply(disc),
+                commands::READ_TRACK_INFORMATION => infos.next().unwrap().clone(),
+                _ => Reply::good(&[]),
+            };
+            if let Some(blocks) = command.blocks {
+                let b = command.bytes;
+                let address = i32::from_be_bytes([b[2], b[3], b[4], b[5]]);
+                assert_eq!(u64::from(b[8]), blocks.count.0);
+                writes.push((address, blocks));
+            }
+            answer = job.give(&reply);
+        }
+        (job, answer, writes)
+    }
+
+    fn stop(line: &str, disc: u8, third: Reply) -> (Answer, u64) {
+        let (job, answer, _) = run(line, disc, &[third]);
+        (answer, job.count())
+    }
+
+    fn refused(refusal: Refusal) -> Answer {
+        Answer::Refused(refusal)
+    }
+
+    /// Bench sheet: one track of 300: TAO 26 commands, SAO 35. TAO 300 and
+    /// 317: 50.
+    #[test]
+    fn bench_command_counts() {
+        let (job, answer, _) = run("tao data 300", 0, &[track(0, 300)]);
+        assert_eq!((answer, job.count()), (Answer::Done, 26));
+        let (job, answer, _) = run("sao audio 300", 0, &[track(0, 300)]);
+        assert_eq!((answer, job.count()), (Answer::Done, 35));
+        let infos = [track(7, 617), track(307, 317)];
+        let (job, answer, _) = run("tao data 300 data 317", 1, &infos);
+        assert_eq!((answer, job.count()), (Answer::Done, 50));
+    }
+
+    /// Bench sheet: length 299: 9. Length 300 passes.
+    #[test]
+    fn bench_lengths() {
+        for method in ["tao", "sao"] {
+            let short = stop(&format!("{method} data 299"), 0, track(0, 9_999));
+            assert_eq!(short, (refused(Refusal::ShortTrack), 3));
+            let passes = stop(&format!("{method} data 300"), 0, track(0, 9_999));
+            assert_eq!(passes.0, Answer::Done);
+        }
+    }
+
+    /// Bench sheet: S equal to Free Blocks passes; one more: 10.
+    #[test]
+    fn bench_free_blocks() {
+        for method in ["tao", "sao"] {
+            let line = format!("{method} audio 400");
+            assert_eq!(stop(&line, 0, track(0, 400)).0, Answer::Done);
+            assert_eq!(stop(&line, 0, track(0, 399)), (refused(Refusal::Fit), 3));
+        }
+    }
+
+    /// Bench sheet: SAO with S 449,849 and room passes; 449,850: 10.
+    #[test]
+    fn bench_lead_out_limit() {
+        let room = track(0, u32::MAX);
+        let full = stop("sao data 449849", 0, room.clone());
+        assert_eq!(full, (Answer::Done, 16 + 28_116));
+        assert_eq!(stop("sao data 449850", 0, room), (refused(Refusal::Fit), 3));
+        let late = stop("tao data 300", 0, track(449_549, u32::MAX));
+        assert_eq!(late, (Answer::Done, 26));
+        let later = stop("tao data 300", 0, track(449_550, u32::MAX));
+        assert_eq!(later, (refused(Refusal::Fit), 3));
+    }
+
+    /// Bench sheet: second TAO address equal to the previous end passes; one
+    /// less: 7.
+    #[test]
+    fn bench_second_address() {
+        let line = "tao data 300 data 300";
+        let (job, answer, writes) = run(line, 0, &[track(1_000, 600), track(1_300, 300)]);
+        assert_eq!((answer, job.count()), (Answer::Done, 49));
+        assert_eq!((writes[0].0, writes[18].0), (1_000, 1_288));
+        assert_eq!((writes[19].0, writes[37].0), (1_300, 1_588));
+        let (job, answer, _) = run(line, 0, &[track(1_000, 600), track(1_299, 300)]);
+        assert_eq!(answer, refused(Refusal::TrackInformation));
+        assert_eq!(job.count(), 3 + 1 + 19 + 2 + 1);
+    }
+
+    /// Bench sheet: first SAO WRITE; the pause takes ten WRITEs and ends at
+    /// track 1.
+    #[test]
+    fn bench_first_sao_write() {
+        let (_, _, writes) = run("sao audio 300 audio 317", 0, &[track(0, 617)]);
+        let (mut job, _) = take("sao audio 300 audio 317");
+        let mut replies = opening(0, track(0, 617));
+        replies.extend([Reply::good(&[]), Reply::good(&[])]);
+        let Answer::Command(first) = give_all(&mut job, &replies) else {
+            panic!("no command");
+        };
+        assert_eq!(plain(&first.bytes), "2A 00 FF FF FF 6A 00 00 10 00");
+        let blocks = |track, first, count| Blocks {
+            track: TrackNumber(track),
+            first: BlockCount(first),
+            count: BlockCount(count),
+        };
+        assert_eq!(writes.len(), 10 + 19 + 20);
+        assert_eq!(writes[0], (-150, blocks(0, 0, 16)));
+        assert_eq!(writes[9], (-6, blocks(0, 144, 6)));
+        assert_eq!(writes[10], (0, blocks(1, 0, 16)));
+        assert_eq!(writes[28], (288, blocks(1, 288, 12)));
+        assert_eq!(writes[29], (300, blocks(2, 0, 16)));
+        assert_eq!(writes[48], (604, blocks(2, 304, 13)));
+    }
+
+    /// Bench sheet: finalized disc and a 299-block track: 6.
+    #[test]
+    fn bench_finalized_and_short() {
+        let answer = stop("sao data 299", 2, track(0, 300));
+        assert_eq!(answer, (refused(Refusal::DiscStatus), 3));
+    }
+
+    /// Bench sheet: track counts 0 and 100, as an order taken.
+    #[test]
+    fn bench_bad_orders() {
+        let mut block = order_block(&order_of("tao data 300").unwrap()).unwrap();
+        for count in [0, 100] {
+            block[3] = count;
+            crate::blocks::seal(&mut block);
+            let (mut job, answer) = Job::take(&block);
+            assert_eq!(answer, refused(Refusal::Field));
+            assert_eq!((job.count(), job.ended()), (0, true));
+            assert_eq!(job.give(&Reply::good(&[])), refused(Refusal::Ended));
+        }
+        assert_eq!(Job::take(&[]).1, refused(Refusal::BlockLength));
+        block[510] ^= 1;
+        assert_eq!(Job::take(&block).1, refused(Refusal::Check));
+    }
+
+    /// 99 tracks: 4n+3+W and 16+W commands.
+    #[test]
+    fn ninety_nine_tracks() {
+        let tracks = " audio 301".repeat(99);
+        let infos: Vec<Reply> = (0..99).map(|i| track(5 + 302 * i, 30_000)).collect();
+        let (job, answer, _) = run(&format!("tao{tracks}"), 0, &infos);
+        assert_eq!((answer, job.count()), (Answer::Done, 4 * 99 + 3 + 99 * 19));
+        let (job, answer, _) = run(&format!("sao{tracks}"), 0, &[track(0, 30_000)]);
+        assert_eq!((answer, job.count()), (Answer::Done, 16 + 99 * 19));
+    }
+
+    /// The lowest applying number is given: 5 to 10 after the third reply.
+    #[test]
+    fn numbers_in_order() {
+        let damaged = TrackFields {
+            next_writable: 0,
+            free: 0,
+            damaged: true,
+            address_valid: true,
+        };
+        let line = "sao keep data 299 audio 300";
+        let mut job = take(line).0;
+        let replies = [profile_reply(8), disc_reply(2), track_reply(damaged)];
+        assert_eq!(give_all(&mut job, &replies), refused(Refusal::Profile));
+        let third = || track_reply(damaged);
+        assert_eq!(stop(line, 2, third()).0, refused(Refusal::DiscStatus));
+        assert_eq!(stop(line, 0, third()).0, refused(Refusal::TrackInformation));
+        assert_eq!(
+            stop(line, 0, track(0, 0)).0,
+            refused(Refusal::SessionAtOnce)
+        );
+        let one_kind = "sao data 299 data 300";
+        assert_eq!(
+            stop(one_kind, 0, track(0, 0)).0,
+            refused(Refusal::ShortTrack)
+        );
+        assert_eq!(
+            stop("sao data 300", 0, track(0, 0)).0,
+            refused(Refusal::Fit)
+        );
+    }
+
+    /// SAO looks at Damage alone; TAO needs NWA_V.
+    #[test]
+    fn address_valid_counts_in_tao_alone() {
+        let fields = TrackFields {
+            next_writable: u32::MAX,
+            free: 300,
+            damaged: false,
+            address_valid: false,
+        };
+        assert_eq!(stop("sao data 300", 0, track_reply(fields)).0, Answer::Done);
+        assert_eq!(
+            stop("tao data 300", 0, track_reply(fields)).0,
+            refused(Refusal::TrackInformation)
+        );
+    }
+
+    #[test]
+    fn sums_are_exact() {
+        let wraps = stop("tao data 4294967295 data 301", 0, track(0, u32::MAX));
+        assert_eq!(wraps.0, refused(Refusal::Fit));
+        let address = stop("tao data 300", 0, track(u32::MAX, u32::MAX));
+        assert_eq!(address.0, refused(Refusal::Fit));
+    }
+
+    /// Busy repeats the command and counts it; 71h is not busy.
+    #[test]
+    fn busy_and_deferred() {
+        let (mut job, first) = take("sao data 300");
+        for repeats in 2..=50 {
+            assert_eq!(job.give(&sense_reply(0x70, 2, 4, 8)), first);
+            assert_eq!(job.count(), repeats);
+        }
+        let sense = Sense {
+            key: 2,
+            asc: 4,
+            ascq: 8,
+        };
+        let answer = job.give(&sense_reply(0x71, 2, 4, 8));
+        assert_eq!(answer, refused(Refusal::Failed(sense)));
+        assert_eq!(job.count(), 50);
+    }
+
+    /// A reply to an ended job: 13, and nothing changes.
+    #[test]
+    fn replies_after_the_end() {
+        let (mut job, answer, _) = run("tao data 300", 0, &[track(0, 300)]);
+        assert_eq!(answer, Answer::Done);
+        let busy = sense_reply(0x70, 2, 4, 8);
+        for reply in [Reply::good(&[]), Reply::failed(&[]), busy] {
+            assert_eq!(job.give(&reply), refused(Refusal::Ended));
+            assert_eq!(job.count(), 26);
+        }
+    }
+
+    /// Number 4 stops at once, with the count of commands given so far.
+    #[test]
+    fn number_4_stops_at_once() {
+        for place in 0..3 {
+            let mut job = take("tao data 300").0;
+            let mut replies = opening(0, track(0, 300));
+            replies[place] = Reply::good(&[0; 7]);
+            assert_eq!(
+                give_all(&mut job, &replies[..=place]),
+                refused(Refusal::Reply)
+            );
+            assert_eq!(job.count(), place as u64 + 1);
+        }
+    }
+
+    /// The recorder takes reply data of any length.
+    #[test]
+    fn long_reply_data() {
+        let mut data = vec![0; 70_000];
+        data[3] = 4;
+        data[7] = 9;
+        let (mut job, _) = take("tao data 300");
+        assert!(matches!(job.give(&Reply::good(&data)), Answer::Command(_)));
+    }
+
+    #[test]
+    fn the_count_stays_at_its_limit() {
+        let (mut job, first) = take("tao data 300");
+        job.count = u64::MAX - 1;
+        assert_eq!(job.give(&sense_reply(0x70, 2, 4, 8)), first);
+        assert_eq!(job.count(), u64::MAX);
+        assert_eq!(job.give(&sense_reply(0xF0, 2, 4, 8)), first);
+        assert_eq!(job.count(), u64::MAX);
+    }
+}

@@ -1,0 +1,290 @@
+//! Answers requests over the byte layouts, one line each, so that another
+//! program's layouts can be compared. A lent buffer of a request's length is
+//! filled with A5h beforehand and stands whole in the answer.
+
+use crate::blocks::{order_block, read_order, read_reply, reply_block, Reply, Status};
+use crate::commands;
+use crate::hex;
+use crate::page::mode_data;
+use crate::refusal::{lend, Refusal};
+use crate::sheet::{read_sheet, sheet};
+use crate::times::{address_of, time_of, Time};
+use crate::units::{
+    Address, BlockCount, Flags, Kind, Method, Order, Track, TrackNumber, MOST_TRACKS,
+};
+use std::str::FromStr;
+
+/// What a lent buffer holds beforehand.
+const FILL: u8 = 0xA5;
+/// Longer buffers are no request.
+const MOST_LENT: usize = 1 << 20;
+
+type Made = Result<Vec<u8>, Refusal>;
+
+/// The answer line to a request line, without a line feed.
+pub fn answer(request: &str) -> String {
+    let words: Vec<&str> = request.split_whitespace().collect();
+    reader(&words)
+        .or_else(|| maker(&words))
+        .unwrap_or_else(|| "bad request".to_string())
+}
+
+/// Conversions and readers, which lend no buffer.
+fn reader(words: &[&str]) -> Option<String> {
+    let (name, rest) = words.split_first()?;
+    let result = match *name {
+        "time" => time_answer(rest)?,
+        "address" => address_answer(rest)?,
+        "order-read" => read_order(&hex::bytes_or_dash(rest)?).map(|order| order_words(&order)),
+        "reply-read" => read_reply(&hex::bytes_or_dash(rest)?).map(|reply| reply_words(&reply)),
+        "sheet-read" => read_sheet(&hex::bytes_or_dash(rest)?).map(sheet_words),
+        _ => return None,
+    };
+    Some(match result {
+        Ok(words) => format!("ok {words}"),
+        Err(refusal) => format!("refused {}", refusal.number()),
+    })
+}
+
+fn time_answer(words: &[&str]) -> Option<Result<String, Refusal>> {
+    let [address] = words else { return None };
+    let time = time_of(Address(number(address)?));
+    Some(time.map(|time| format!("{} {} {}", time.minute, time.second, time.frame)))
+}
+
+fn address_answer(words: &[&str]) -> Option<Result<String, Refusal>> {
+    let [minute, second, frame] = words else {
+        return None;
+    };
+    let time = Time {
+        minute: number(minute)?,
+        second: number(second)?,
+        frame: number(frame)?,
+    };
+    Some(address_of(time).map(|address| address.0.to_string()))
+}
+
+fn order_words(order: &Order) -> String {
+    let tracks = order.tracks.iter();
+    let tracks: String = tracks
+        .map(|t| format!(" {} {}", t.kind.byte(), t.length))
+        .collect();
+    let (method, flags) = (order.method.byte(), order.flags.byte());
+    format!("{method} {flags} {}{tracks}", order.tracks.len())
+}
+
+fn reply_words(reply: &Reply) -> String {
+    format!("{} {}", reply.status.byte(), hex::or_dash(&reply.data))
+}
+
+fn sheet_words((kind, lengths): (Kind, Vec<u32>)) -> String {
+    let rest: String = lengths.iter().map(|length| format!(" {length}")).collect();
+    format!("{} {}{rest}", kind.byte(), lengths.len())
+}
+
+/// Makers with a lent buffer, whose length is the first number.
+fn maker(words: &[&str]) -> Option<String> {
+    let [name, lent, rest @ ..] = words else {
+        return None;
+    };
+    let length: usize = number(lent)?;
+    if length > MOST_LENT {
+        return None;
+    }
+    let made = make(name, rest)?;
+    let mut buffer = vec![FILL; length];
+    let result = made.and_then(|bytes| lend(&bytes, &mut buffer));
+    let buffer = hex::or_dash(&buffer);
+    Some(match result {
+        Ok(()) => format!("ok {buffer}"),
+        Err(refusal) => format!("refused {} {buffer}", refusal.number()),
+    })
+}
+
+fn make(name: &str, words: &[&str]) -> Option<Made> {
+    match name {
+        "order-write" => Some(order_block(&order(words)?).map(Vec::from)),
+        "reply-write" => Some(reply_block(&reply(words)?).map(Vec::from)),
+        "page" => {
+            let (kind, rest) = words.split_first()?;
+            let kind = Kind::from_byte(number(kind)?)?;
+            Some(mode_data(&order(rest)?, kind).map(Vec::from))
+        }
+        "sheet" => Some(sheet(&order(words)?)),
+        _ => make_command(name, words),
+    }
+}
+
+fn make_command(name: &str, words: &[&str]) -> Option<Made> {
+    let bytes = match (name, words) {
+        ("get-configuration", []) => Ok(commands::get_configuration()),
+        ("read-disc-information", []) => Ok(commands::read_disc_information()),
+        ("read-track-information", []) => Ok(commands::read_track_information()),
+        ("mode-select", []) => Ok(commands::mode_select()),
+        ("send-cue-sheet", [length]) => commands::send_cue_sheet(number(length)?),
+        ("write", [address, count]) => {
+            let count: u32 = number(count)?;
+            commands::write(Address(number(address)?), BlockCount(count.into()))
+        }
+        ("synchronize-cache", []) => Ok(commands::synchronize_cache()),
+        ("close-track-session", [function, track]) => {
+            commands::close_track_session(number(function)?, TrackNumber(number(track)?))
+        }
+        _ => return None,
+    };
+    Some(bytes.map(Vec::from))
+}
+
+/// Method, flags, count, and a kind and length for each of up to 99 tracks.
+fn order(words: &[&str]) -> Option<Order> {
+    let [method, flags, count, pairs @ ..] = words else {
+        return None;
+    };
+    let count = usize::from(number::<u8>(count)?);
+    if pairs.len() != 2 * count.min(MOST_TRACKS) {
+        return None;
+    }
+    let tracks = pairs.chunks_exact(2).map(|pair| track(pair[0], pair[1]));
+    let mut order = Order {
+        method: Method::from_byte(number(method)?)?,
+        flags: Flags::from_byte(number(flags)?)?,
+        tracks: tracks.collect::<Option<Vec<Track>>>()?,
+    };
+    // A count over 99 lists 99 tracks; what the others are doesn't matter.
+    order.tracks.resize(
+        count,
+        Track {
+            kind: Kind::Audio,
+            length: 0,
+        },
+    );
+    Some(order)
+}
+
+fn track(kind: &str, length: &str) -> Option<Track> {
+    Some(Track {
+        kind: Kind::from_byte(number(kind)?)?,
+        length: number(length)?,
+    })
+}
+
+fn reply(words: &[&str]) -> Option<Reply> {
+    let (status, data) = words.split_first()?;
+    Some(Reply {
+        status: Status::from_byte(number(status)?)?,
+        data: hex::bytes_or_dash(data)?,
+    })
+}
+
+/// A decimal number of a type's range, without a plus sign.
+fn number<T: FromStr>(word: &str) -> Option<T> {
+    if word.starts_with('+') {
+        return None;
+    }
+    word.parse().ok()
+}
+
+#[cfg(test)]
+mod tests {
+    use super::*;
+
+    #[test]
+    fn times() {
+        assert_eq!(answer("time -150"), "ok 0 0 0");
+        assert_eq!(answer("time 449849"), "ok 99 59 74");
+        assert_eq!(answer("time -151"), "refused 15");
+        assert_eq!(answer("address 0 2 0"), "ok 0");
+        assert_eq!(answer("address 0 60 0"), "refused 15");
+    }
+
+    #[test]
+    fn commands() {
+        let write = "ok 2A 00 FF FF FF 6A 00 00 10 00 A5";
+        assert_eq!(answer("write 11 -150 16"), write);
+        assert_eq!(answer("write 2 -150 17"), "refused 15 A5 A5");
+        assert_eq!(answer("write 2 -150 16"), "refused 11 A5 A5");
+        assert_eq!(answer("mode-select 0"), "refused 11 -");
+        assert_eq!(answer("send-cue-sheet 1 33"), "refused 15 A5");
+        assert_eq!(answer("close-track-session 1 3 65535"), "refused 15 A5");
+    }
+
+    #[test]
+    fn orders() {
+        let written = answer("order-write 512 2 0 1 1 300");
+        assert!(written.starts_with("ok 01 02 00 01 01 00 00 01 2C 00"));
+        assert!(written.ends_with(" 00 00 32"));
+        let read = written.replacen("ok", "order-read", 1);
+        assert_eq!(answer(&read), "ok 2 0 1 1 300");
+        assert_eq!(answer("order-write 1 2 0 0"), "refused 3 A5");
+        let pairs = " 0 300".repeat(99);
+        assert_eq!(
+            answer(&format!("order-write 1 2 0 100{pairs}")),
+            "refused 3 A5"
+        );
+        assert_eq!(
+            answer(&format!("order-write 1 2 0 99{pairs}")),
+            "refused 11 A5"
+        );
+        assert_eq!(answer("order-read -"), "refused 1");
+    }
+
+    #[test]
+    fn replies() {
+        let written = answer("reply-write 513 1 70 00");
+        assert!(written.starts_with("ok 02 01 00 02 70 00 00"));
+        assert!(written.ends_with(" 00 75 A5"));
+        let block = written
+            .strip_prefix("ok ")
+            .unwrap()
+            .strip_suffix(" A5")
+            .unwrap();
+        assert_eq!(answer(&format!("reply-read {block}")), "ok 1 70 00");
+        assert!(answer("reply-write 512 0 -").starts_with("ok 02 00 00 00 00"));
+    }
+
+    #[test]
+    fn pages_and_sheets() {
+        assert!(answer("page 60 1 1 3 1 0 0").contains(" 05 32 41 C4 08 00"));
+        assert_eq!(answer("page 0 0 2 1 1 0 0"), "refused 8 -");
+        assert_eq!(
+            answer("page 59 0 2 0 1 0 0"),
+            format!("refused 11{}", " A5".repeat(59))
+        );
+        let made = answer("sheet 40 2 0 2 0 300 0 450");
+        assert!(made.ends_with("01 AA 01 01 00 00 0C 00"));
+        let read = made.replacen("ok", "sheet-read", 1);
+        assert_eq!(answer(&read), "ok 0 2 300 450");
+        assert_eq!(answer("sheet 0 1 0 1 0 300"), "refused 3 -");
+        assert_eq!(answer("sheet-read -"), "refused 14");
+    }
+
+    #[test]
+    fn bad_requests() {
+        for request in [
+            "",
+            "time",
+            "time x",
+            "time 1 2",
+            "time +1",
+            "address 1 2",
+            "address 1 2 256",
+            "order-read",
+            "order-read 1",
+            "order-write 512 3 0 1 0 300",
+            "order-write 512 1 4 1 0 300",
+            "order-write 512 1 0 2 0 300",
+            "order-write 512 1 0 1 2 300",
+            "write 10 0 -1",
+            "mode-select",
+            "mode-select 10 1",
+            "mode-select -1",
+            "nothing",
+            "reply-write 512 2 -",
+            "page 60 2 1 0 1 0 300",
+            "close-track-session 10 256 0",
+            "close-track-session 10 1 65536",
+        ] {
+            assert_eq!(answer(request), "bad request", "{request}");
+        }
+    }
+}

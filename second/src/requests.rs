@@ -1,0 +1,775 @@
+//! Requests for the layouts tool: random ones, and a fixed list of corners.
+
+use crate::blocks::{order_block, reply_block, seal, Reply, Status, BLOCK, MOST_DATA};
+use crate::hex;
+use crate::rng::Rng;
+use crate::units::{Flags, Kind, Method, Order, Track, MOST_TRACKS};
+
+const LIMIT: u32 = 449_849;
+const KINDS: [Kind; 2] = [Kind::Audio, Kind::Data];
+const METHODS: [Method; 2] = [Method::Tao, Method::Sao];
+
+/// A random request line.
+pub fn random(rng: &mut Rng) -> String {
+    match rng.below(16) {
+        0 => format!("time {}", any_address(rng)),
+        1 => random_address(rng),
+        2..=3 => random_order_read(rng),
+        4 => random_order_write(rng),
+        5..=6 => random_reply_read(rng),
+        7 => random_reply_write(rng),
+        8 => random_page(rng),
+        9..=10 => random_sheet(rng),
+        11..=13 => random_sheet_read(rng),
+        _ => random_command(rng),
+    }
+}
+
+fn any_address(rng: &mut Rng) -> i64 {
+    match rng.below(8) {
+        0 => rng.pick(&[-152, -151, -150, -149, -1, 0, 1, 74, 75, 76]),
+        1 => rng.pick(&[449_848, 449_849, 449_850, 450_000]),
+        2 => rng.pick(&[
+            i64::MIN,
+            i64::MAX,
+            1 << 32,
+            -(1 << 32),
+            (1 << 32) - 150,
+            i64::MIN + 150,
+        ]),
+        3 => rng.next_u64() as i64,
+        _ => rng.below(450_000) as i64 - 150,
+    }
+}
+
+fn random_address(rng: &mut Rng) -> String {
+    let minute = near(rng, 100);
+    let second = near(rng, 60);
+    let frame = near(rng, 75);
+    format!("address {minute} {second} {frame}")
+}
+
+/// A byte, mostly below a limit, often just there.
+fn near(rng: &mut Rng, limit: u8) -> u8 {
+    let inside = rng.below(u64::from(limit)) as u8;
+    let choices = [
+        inside,
+        inside,
+        inside,
+        inside,
+        0,
+        limit - 1,
+        limit - 1,
+        limit,
+        255,
+    ];
+    rng.pick(&choices)
+}
+
+// ---- orders ----
+
+/// An order of typed fields, mostly of 1 to 99 tracks.
+fn any_order(rng: &mut Rng) -> Order {
+    let method = rng.pick(&METHODS);
+    let flags = Flags {
+        keep: rng.chance(30),
+        protect: rng.chance(50),
+    };
+    let kind = rng.pick(&KINDS);
+    let count = any_count(rng);
+    let mut tracks = vec![Track { kind, length: 0 }; count];
+    for track in &mut tracks {
+        track.length = any_length(rng);
+    }
+    if rng.chance(30) {
+        tracks
+            .iter_mut()
+            .for_each(|track| track.kind = rng.pick(&KINDS));
+    }
+    Order {
+        method,
+        flags,
+        tracks,
+    }
+}
+
+fn any_count(rng: &mut Rng) -> usize {
+    let some = rng.between(1, 99) as usize;
+    rng.pick(&[1, 1, 2, 2, 3, 4, 5, some, 98, 99, 0, 100, 255])
+}
+
+fn any_length(rng: &mut Rng) -> u32 {
+    match rng.below(40) {
+        0 => rng.pick(&[0, 1, 299, 300, 301]),
+        1 => rng.pick(&[u32::MAX, u32::MAX - 1, 1 << 31, LIMIT, LIMIT + 1]),
+        2 => rng.next_u64() as u32,
+        _ => rng.between(300, 5_000) as u32,
+    }
+}
+
+/// An SAO order whose sheet can mostly be made, often near the limit.
+fn sheet_order(rng: &mut Rng) -> Order {
+    let mut order = any_order(rng);
+    order.method = Method::Sao;
+    order.flags.keep = rng.chance(3);
+    let kind = rng.pick(&KINDS);
+    if rng.chance(95) {
+        order.tracks.iter_mut().for_each(|track| track.kind = kind);
+    }
+    if rng.chance(90) {
+        order
+            .tracks
+            .iter_mut()
+            .for_each(|track| track.length = track.length.clamp(300, 4_000));
+    }
+    if rng.chance(25) {
+        reach_limit(rng, &mut order);
+    }
+    order
+}
+
+/// Sets a length so that the lead-out stands at its limit or next to it.
+fn reach_limit(rng: &mut Rng, order: &mut Order) {
+    if order.tracks.is_empty() {
+        return;
+    }
+    let place = rng.below(order.tracks.len() as u64) as usize;
+    let others = order.blocks_from(0).0 - u64::from(order.tracks[place].length);
+    let limit = u64::from(rng.pick(&[LIMIT - 1, LIMIT, LIMIT, LIMIT + 1]));
+    if let Some(length) = limit.checked_sub(others) {
+        order.tracks[place].length = length as u32;
+    }
+}
+
+/// METHOD FLAGS N K1 L1 .., with at most 99 tracks listed.
+fn order_words(order: &Order) -> String {
+    let (method, flags) = (order.method.byte(), order.flags.byte());
+    let tracks = order.tracks.iter().take(MOST_TRACKS);
+    let pairs: String = tracks
+        .map(|t| format!(" {} {}", t.kind.byte(), t.length))
+        .collect();
+    format!("{method} {flags} {}{pairs}", order.tracks.len())
+}
+
+/// A buffer's length around the one that is needed.
+fn lent(rng: &mut Rng, needed: usize) -> usize {
+    let less = rng.below(needed as u64 + 1) as usize;
+    rng.pick(&[
+        needed,
+        needed,
+        needed,
+        needed,
+        needed + 1,
+        needed + 9,
+        needed - 1,
+        less,
+        0,
+    ])
+}
+
+fn random_order_write(rng: &mut Rng) -> String {
+    let order = any_order(rng);
+    format!("order-write {} {}", lent(rng, BLOCK), order_words(&order))
+}
+
+fn random_page(rng: &mut Rng) -> String {
+    let order = any_order(rng);
+    let kind = rng.pick(&KINDS).byte();
+    format!("page {} {kind} {}", lent(rng, 60), order_words(&order))
+}
+
+fn random_sheet(rng: &mut Rng) -> String {
+    let order = if rng.chance(80) {
+        sheet_order(rng)
+    } else {
+        any_order(rng)
+    };
+    let needed = 8 * (order.tracks.len() + 3);
+    format!("sheet {} {}", lent(rng, needed), order_words(&order))
+}
+
+// ---- blocks read ----
+
+fn random_order_read(rng: &mut Rng) -> String {
+    let order = any_order(rng);
+    let block = order_block(&order).unwrap_or([0; BLOCK]);
+    let used = (4 + 5 * order.tracks.len()).min(BLOCK);
+    format!(
+        "order-read {}",
+        hex::or_dash(&changed_block(rng, block, used))
+    )
+}
+
+fn any_reply(rng: &mut Rng, most: usize) -> Reply {
+    let some = rng.below(most as u64 + 1) as usize;
+    let length = rng.pick(&[0, 1, 8, 14, 18, 34, 48, some, some, most - 1, most]);
+    let status = rng.pick(&[Status::Good, Status::Failed]);
+    Reply {
+        status,
+        data: rng.bytes(length),
+    }
+}
+
+fn random_reply_read(rng: &mut Rng) -> String {
+    let reply = any_reply(rng, MOST_DATA);
+    let block = reply_block(&reply).unwrap_or([0; BLOCK]);
+    let used = 4 + reply.data.len();
+    format!(
+        "reply-read {}",
+        hex::or_dash(&changed_block(rng, block, used))
+    )
+}
+
+fn random_reply_write(rng: &mut Rng) -> String {
+    let most = rng.pick(&[MOST_DATA, MOST_DATA, MOST_DATA + 1, 600]);
+    let reply = any_reply(rng, most);
+    let data = hex::or_dash(&reply.data);
+    format!(
+        "reply-write {} {} {data}",
+        lent(rng, BLOCK),
+        reply.status.byte()
+    )
+}
+
+/// A block as it is, or changed in a byte (mostly one of those used), with
+/// or without a right check, or of another length.
+fn changed_block(rng: &mut Rng, mut block: [u8; BLOCK], used: usize) -> Vec<u8> {
+    let anywhere = rng.below(BLOCK as u64) as usize;
+    let in_use = rng.below(used as u64) as usize;
+    let head = rng.below(4) as usize;
+    let place = rng.pick(&[anywhere, in_use, in_use, head, head, 509, used.min(511)]);
+    let value = rng.byte();
+    let value = rng.pick(&[value, value, 0, 1, 2, 3, 255, block[place] ^ 1]);
+    match rng.below(12) {
+        0..=3 => block.to_vec(),
+        4..=8 => {
+            block[place] = value;
+            seal(&mut block);
+            block.to_vec()
+        }
+        9 => {
+            block[place] = value;
+            block.to_vec()
+        }
+        10 => block[..rng.pick(&[0, 1, 4, 509, 510, 511])].to_vec(),
+        _ => {
+            let mut longer = block.to_vec();
+            longer.resize(BLOCK + rng.between(1, 3) as usize, 0);
+            longer
+        }
+    }
+}
+
+// ---- sheets read ----
+
+fn random_sheet_read(rng: &mut Rng) -> String {
+    let order = sheet_order(rng);
+    let mut bytes = loose_sheet(&order);
+    for _ in 0..rng.pick(&[0, 0, 1, 1, 1, 2, 4]) {
+        change_sheet(rng, &mut bytes);
+    }
+    format!("sheet-read {}", hex::or_dash(&bytes))
+}
+
+/// The sheet of an order, right or wrong: no number is judged.
+fn loose_sheet(order: &Order) -> Vec<u8> {
+    let kind = order.tracks.first().map_or(Kind::Data, |track| track.kind);
+    let (control, lead, form) = match kind {
+        Kind::Data => (0x41, 0x14, 0x10),
+        Kind::Audio => (0x01, 0x01, 0x00),
+    };
+    let mut bytes = vec![
+        control, 0, 0, lead, 0, 0, 0, 0, control, 1, 0, form, 0, 0, 0, 0,
+    ];
+    let mut frames = 150u64;
+    for (index, track) in order.tracks.iter().enumerate() {
+        bytes.extend([control, index as u8 + 1, 1, form, 0]);
+        bytes.extend(loose_time(frames));
+        frames += u64::from(track.length);
+    }
+    bytes.extend([control, 0xAA, 1, lead, 0]);
+    bytes.extend(loose_time(frames));
+    bytes
+}
+
+fn loose_time(frames: u64) -> [u8; 3] {
+    let second = frames / 75;
+    [
+        (second / 60).min(255) as u8,
+        (second % 60) as u8,
+        (frames % 75) as u8,
+    ]
+}
+
+fn change_sheet(rng: &mut Rng, bytes: &mut Vec<u8>) {
+    let length = bytes.len();
+    if length < 16 {
+        return;
+    }
+    let place = rng.below(length as u64) as usize;
+    let entry = 8 * rng.below(length as u64 / 8) as usize;
+    match rng.below(12) {
+        0..=1 => bytes[place] = rng.byte(),
+        2 => bytes[place] ^= 1 << rng.below(8),
+        3..=4 => bytes[entry + 7] = bytes[entry + 7].wrapping_add(1),
+        5 => bytes[entry + 7] = bytes[entry + 7].wrapping_sub(1),
+        6 => bytes[entry + 6] = rng.pick(&[0, 59, 60, 74]),
+        7 => bytes[entry + 5] = rng.pick(&[0, 99, 100]),
+        8 => bytes.truncate(rng.pick(&[length - 1, length - 8, entry, 0])),
+        9 => {
+            let more = rng.pick(&[1, 8]);
+            bytes.extend(rng.bytes(more));
+        }
+        10 => {
+            let repeated = bytes[entry..entry + 8].to_vec();
+            bytes.splice(entry..entry, repeated);
+        }
+        _ => {
+            bytes.drain(entry..entry + 8);
+        }
+    }
+}
+
+// ---- commands ----
+
+fn random_command(rng: &mut Rng) -> String {
+    let lent = lent(rng, 10);
+    match rng.below(10) {
+        0 => format!("get-configuration {lent}"),
+        1 => format!("read-disc-information {lent}"),
+        2 => format!("read-track-information {lent}"),
+        3 => format!("mode-select {lent}"),
+        4 => format!("synchronize-cache {lent}"),
+        5..=6 => format!("send-cue-sheet {lent} {}", any_sheet_length(rng)),
+        7..=8 => format!("write {lent} {} {}", any_address(rng), any_write_count(rng)),
+        _ => {
+            let function = rng.pick(&[0, 1, 1, 2, 2, 3, 255]);
+            let track = rng.next_u64() as u16;
+            let track = rng.pick(&[0, 1, 99, 255, 256, 65_535, track]);
+            format!("close-track-session {lent} {function} {track}")
+        }
+    }
+}
+
+fn any_sheet_length(rng: &mut Rng) -> u32 {
+    let right = 8 * rng.between(4, 102) as u32;
+    let any = rng.next_u64() as u32;
+    let near = rng.below(900) as u32;
+    rng.pick(&[
+        right, right, right, near, 24, 31, 32, 33, 816, 817, 824, 65_568, any,
+    ])
+}
+
+fn any_write_count(rng: &mut Rng) -> u32 {
+    let right = rng.between(1, 16) as u32;
+    rng.pick(&[
+        right,
+        right,
+        right,
+        right,
+        0,
+        1,
+        16,
+        17,
+        256,
+        65_537,
+        u32::MAX,
+    ])
+}
+
+// ---- the fixed list ----
+
+/// All corner requests.
+pub fn corners() -> Vec<String> {
+    let mut list = Vec::new();
+    time_corners(&mut list);
+    order_corners(&mut list);
+    reply_corners(&mut list);
+    page_corners(&mut list);
+    sheet_corners(&mut list);
+    sheet_read_corners(&mut list);
+    command_corners(&mut list);
+    bad_corners(&mut list);
+    list
+}
+
+fn time_corners(list: &mut Vec<String>) {
+    let addresses = [
+        i64::MIN,
+        i64::MIN + 150,
+        -(1 << 32),
+        -152,
+        -151,
+        -150,
+        -149,
+        -76,
+        -75,
+        -1,
+        0,
+        1,
+        74,
+        75,
+        4_349,
+        4_350,
+        4_351,
+        449_774,
+        449_775,
+        449_848,
+        449_849,
+        449_850,
+        449_999,
+        450_000,
+        (1 << 32) - 150,
+        1 << 32,
+        i64::MAX - 150,
+        i64::MAX,
+    ];
+    list.extend(addresses.map(|address| format!("time {address}")));
+    for minute in [0, 1, 98, 99, 100, 101, 255] {
+        for second in [0, 1, 2, 59, 60, 61, 255] {
+            for frame in [0, 1, 74, 75, 76, 255] {
+                list.push(format!("address {minute} {second} {frame}"));
+            }
+        }
+    }
+}
+
+fn simple_order(method: Method, flags: u8, count: usize, length: u32) -> Order {
+    Order {
+        method,
+        flags: Flags {
+            keep: flags & 1 != 0,
+            protect: flags & 2 != 0,
+        },
+        tracks: vec![
+            Track {
+                kind: Kind::Data,
+                length
+            };
+            count
+        ],
+    }
+}
+
+fn order_corners(list: &mut Vec<String>) {
+    for method in METHODS {
+        for flags in 0..4 {
+            let words = order_words(&simple_order(method, flags, 2, 300));
+            list.push(format!("order-write 512 {words}"));
+        }
+    }
+    for count in [0, 1, 2, 98, 99, 100, 101, 255] {
+        for lent in [0, 1, 511, 512, 513] {
+            let words = order_words(&simple_order(Method::Sao, 0, count, u32::MAX));
+            list.push(format!("order-write {lent} {words}"));
+        }
+    }
+    let order = Order {
+        method: Method::Tao,
+        flags: Flags {
+            keep: true,
+            protect: true,
+        },
+        tracks: [(Kind::Data, 300), (Kind::Audio, u32::MAX), (Kind::Data, 0)]
+            .map(|(kind, length)| Track { kind, length })
+            .to_vec(),
+    };
+    for order in [order, simple_order(Method::Sao, 0, 99, 0x0102_0304)] {
+        let block = order_block(&order).unwrap_or([0; BLOCK]);
+        block_read_corners(list, "order-read", block);
+    }
+}
+
+fn reply_corners(list: &mut Vec<String>) {
+    for length in [0, 1, 2, 505, 506, 507, 508, 1_000] {
+        for lent in [0, 511, 512, 513] {
+            let data = hex::or_dash(&vec![0xFF; length]);
+            list.push(format!("reply-write {lent} 0 {data}"));
+            list.push(format!("reply-write {lent} 1 {data}"));
+        }
+    }
+    let busy = [0x70, 0, 2, 0, 0, 0, 0, 10, 0, 0, 0, 0, 4, 8];
+    for reply in [
+        Reply::failed(&busy),
+        Reply::good(&[0xFF; MOST_DATA]),
+        Reply::good(&[]),
+    ] {
+        let block = reply_block(&reply).unwrap_or([0; BLOCK]);
+        block_read_corners(list, "reply-read", block);
+    }
+}
+
+/// A block, each byte of it changed with and without a right check, and
+/// other lengths.
+fn block_read_corners(list: &mut Vec<String>, name: &str, block: [u8; BLOCK]) {
+    let mut push = |bytes: &[u8]| list.push(format!("{name} {}", hex::or_dash(bytes)));
+    push(&block);
+    for length in [0, 1, 4, 509, 510, 511] {
+        push(&block[..length]);
+    }
+    push(&[block.as_slice(), &[0]].concat());
+    push(&[block, block].concat());
+    for place in 0..BLOCK {
+        let mut changed = block;
+        changed[place] = changed[place].wrapping_add(1);
+        push(&changed);
+        seal(&mut changed);
+        push(&changed);
+    }
+    for place in 0..5 {
+        for value in 0..=255 {
+            let mut changed = block;
+            changed[place] = value;
+            seal(&mut changed);
+            push(&changed);
+        }
+    }
+}
+
+fn page_corners(list: &mut Vec<String>) {
+    for kind in 0..2 {
+        for method in METHODS {
+            for flags in 0..4 {
+                for count in [0, 1, 99, 100] {
+                    let words = order_words(&simple_order(method, flags, count, 0));
+                    for lent in [0, 59, 60, 61] {
+                        list.push(format!("page {lent} {kind} {words}"));
+                    }
+                }
+            }
+        }
+    }
+    list.push("page 60 0 2 2 2 0 300 1 300".to_string());
+}
+
+fn sheet_corners(list: &mut Vec<String>) {
+    let lines = [
+        "sheet 40 2 0 2 0 300 0 450",
+        "sheet 40 2 2 2 1 300 1 450",
+        "sheet 41 2 0 2 0 300 0 450",
+        "sheet 39 2 0 2 0 300 0 450",
+        "sheet 0 2 0 2 0 300 0 450",
+        "sheet 32 2 0 1 1 299",
+        "sheet 32 2 0 1 1 300",
+        "sheet 32 2 0 1 1 449849",
+        "sheet 32 2 0 1 1 449850",
+        "sheet 32 2 0 1 1 4294967295",
+        "sheet 40 2 0 2 1 449549 1 300",
+        "sheet 40 2 0 2 1 449550 1 300",
+        "sheet 40 2 0 2 1 4294967295 1 301",
+        "sheet 40 2 0 2 1 2147483648 1 2147483948",
+        "sheet 40 1 0 2 0 300 0 450",
+        "sheet 40 1 1 2 0 300 1 299",
+        "sheet 40 2 1 2 0 300 0 450",
+        "sheet 40 2 0 2 0 300 1 450",
+        "sheet 40 2 0 2 0 299 1 449850",
+        "sheet 40 2 1 2 0 299 0 449850",
+        "sheet 40 2 0 2 0 299 0 449850",
+        "sheet 0 2 0 0",
+        "sheet 0 2 1 0",
+        "sheet 0 1 0 0",
+    ];
+    list.extend(lines.map(str::to_string));
+    for count in [1, 2, 98, 99, 100, 255] {
+        let words = order_words(&simple_order(Method::Sao, 0, count, 300));
+        for lent in [815, 816, 817] {
+            list.push(format!("sheet {lent} {words}"));
+        }
+    }
+}
+
+fn sheet_read_corners(list: &mut Vec<String>) {
+    let mut push = |bytes: &[u8]| list.push(format!("sheet-read {}", hex::or_dash(bytes)));
+    let order = |kind: Kind, lengths: &[u32]| {
+        let mut order = simple_order(Method::Sao, 0, 0, 0);
+        order.tracks = lengths
+            .iter()
+            .map(|&length| Track { kind, length })
+            .collect();
+        order
+    };
+    for kind in KINDS {
+        let sheets: [&[u32]; 10] = [
+            &[],
+            &[0],
+            &[299],
+            &[300],
+            &[300, 450],
+            &[300, 299],
+            &[449_849],
+            &[449_850],
+            &[449_549, 300],
+            &[300; 100],
+        ];
+        for lengths in sheets {
+            push(&loose_sheet(&order(kind, lengths)));
+        }
+        push(&loose_sheet(&order(kind, &[300; 99])));
+        let small = loose_sheet(&order(kind, &[4_500]));
+        for place in 0..small.len() {
+            for value in 0..=255 {
+                let mut changed = small.clone();
+                changed[place] = value;
+                push(&changed);
+            }
+        }
+        for length in 0..small.len() {
+            push(&small[..length]);
+        }
+        push(&[small.as_slice(), &[0]].concat());
+        push(&[small.as_slice(), &[0; 8]].concat());
+    }
+    let mut mixed = loose_sheet(&order(Kind::Data, &[300, 450]));
+    mixed[24] = 0x01;
+    mixed[27] = 0x00;
+    push(&mixed);
+}
+
+fn command_corners(list: &mut Vec<String>) {
+    for lent in [0, 1, 9, 10, 11, 20] {
+        for name in [
+            "get-configuration",
+            "read-disc-information",
+            "read-track-information",
+            "mode-select",
+            "synchronize-cache",
+        ] {
+            list.push(format!("{name} {lent}"));
+        }
+        for length in [
+            0,
+            8,
+            24,
+            31,
+            32,
+            33,
+            40,
+            816,
+            817,
+            824,
+            65_536 + 32,
+            u32::MAX,
+        ] {
+            list.push(format!("send-cue-sheet {lent} {length}"));
+        }
+        for address in [
+            i64::MIN,
+            -151,
+            -150,
+            -1,
+            0,
+            449_849,
+            449_850,
+            (1 << 32) - 150,
+            1 << 32,
+            i64::MAX,
+        ] {
+            for count in [0, 1, 16, 17, 65_537, u32::MAX] {
+                list.push(format!("write {lent} {address} {count}"));
+            }
+        }
+        for function in [0, 1, 2, 3, 255] {
+            for track in [0, 1, 255, 256, 65_535] {
+                list.push(format!("close-track-session {lent} {function} {track}"));
+            }
+        }
+    }
+    list.extend((0..=1_000).map(|length| format!("send-cue-sheet 10 {length}")));
+}
+
+fn bad_corners(list: &mut Vec<String>) {
+    let lines = [
+        "nonsense",
+        "time",
+        "time x",
+        "write 10 0",
+        "order-write 512 1 0 2 0 300",
+        "order-read",
+        "order-read 0",
+        "sheet",
+        "time 0",
+    ];
+    list.extend(lines.map(str::to_string));
+}
+
+#[cfg(test)]
+mod tests {
+    use super::*;
+    use crate::layouts::answer;
+    use std::collections::BTreeSet;
+
+    /// Random requests are understood, and both succeed and are refused.
+    #[test]
+    fn random_requests_are_understood() {
+        let mut rng = Rng::new(11);
+        let mut seen = BTreeSet::new();
+        for _ in 0..4_000 {
+            let request = random(&mut rng);
+            let answer = answer(&request);
+            assert_ne!(answer, "bad request", "{request}");
+            let name = request.split(' ').next().unwrap_or("").to_string();
+            let words: Vec<&str> = answer.split(' ').take(2).collect();
+            let ending = if words[0] == "ok" {
+                "ok".to_string()
+            } else {
+                words.join(" ")
+            };
+            seen.insert((name, ending));
+        }
+        let expected = [
+            ("time", "ok"),
+            ("time", "refused 15"),
+            ("address", "ok"),
+            ("address", "refused 15"),
+            ("order-read", "ok"),
+            ("order-read", "refused 1"),
+            ("order-read", "refused 2"),
+            ("order-read", "refused 3"),
+            ("order-write", "ok"),
+            ("order-write", "refused 3"),
+            ("order-write", "refused 11"),
+            ("reply-read", "ok"),
+            ("reply-read", "refused 1"),
+            ("reply-read", "refused 2"),
+            ("reply-read", "refused 3"),
+            ("reply-write", "ok"),
+            ("reply-write", "refused 3"),
+            ("reply-write", "refused 11"),
+            ("page", "ok"),
+            ("page", "refused 3"),
+            ("page", "refused 8"),
+            ("page", "refused 11"),
+            ("sheet", "ok"),
+            ("sheet", "refused 3"),
+            ("sheet", "refused 8"),
+            ("sheet", "refused 9"),
+            ("sheet", "refused 10"),
+            ("sheet", "refused 11"),
+            ("sheet-read", "ok"),
+            ("sheet-read", "refused 14"),
+            ("write", "ok"),
+            ("write", "refused 11"),
+            ("write", "refused 15"),
+            ("send-cue-sheet", "ok"),
+            ("send-cue-sheet", "refused 15"),
+            ("close-track-session", "ok"),
+            ("close-track-session", "refused 15"),
+        ];
+        for (name, ending) in expected {
+            assert!(
+                seen.contains(&(name.to_string(), ending.to_string())),
+                "{name} {ending}"
+            );
+        }
+    }
+
+    #[test]
+    fn only_the_bad_corners_are_bad() {
+        let list = corners();
+        let bad = list
+            .iter()
+            .filter(|request| answer(request) == "bad request")
+            .count();
+        assert_eq!(bad, 8);
+    }
+}

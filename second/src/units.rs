@@ -1,0 +1,162 @@
+//! Units that are kept apart, and the order of tracks.
+
+use crate::refusal::{require, Refusal};
+
+/// First address that a disc of ours knows: the start of the pause.
+pub const FIRST_ADDRESS: i64 = -150;
+/// Last address with a time, and the limit of the lead-out.
+pub const LAST_ADDRESS: i64 = 449_849;
+/// A track has at least this many blocks (document 000).
+pub const SHORTEST_TRACK: u32 = 300;
+/// An order holds at most this many tracks.
+pub const MOST_TRACKS: usize = 99;
+
+/// A block address.
+#[derive(Clone, Copy, PartialEq, Eq, PartialOrd, Ord, Debug)]
+pub struct Address(pub i64);
+
+/// A number of blocks.
+#[derive(Clone, Copy, PartialEq, Eq, PartialOrd, Ord, Debug)]
+pub struct BlockCount(pub u64);
+
+/// A track number; 0 stands for the pause.
+#[derive(Clone, Copy, PartialEq, Eq, PartialOrd, Ord, Debug)]
+pub struct TrackNumber(pub u16);
+
+impl Address {
+    /// The address that comes `count` blocks later.
+    pub fn after(self, count: BlockCount) -> Address {
+        // Addresses stem from 32-bit fields and counts from at most 99
+        // lengths of 32 bits, so this never leaves 64 bits.
+        Address(self.0 + count.0 as i64)
+    }
+}
+
+#[derive(Clone, Copy, PartialEq, Eq, Debug)]
+pub enum Kind {
+    Audio,
+    Data,
+}
+
+impl Kind {
+    pub fn from_byte(byte: u8) -> Option<Kind> {
+        match byte {
+            0 => Some(Kind::Audio),
+            1 => Some(Kind::Data),
+            _ => None,
+        }
+    }
+
+    pub fn byte(self) -> u8 {
+        match self {
+            Kind::Audio => 0,
+            Kind::Data => 1,
+        }
+    }
+}
+
+#[derive(Clone, Copy, PartialEq, Eq, Debug)]
+pub enum Method {
+    /// Track at once.
+    Tao,
+    /// Session at once.
+    Sao,
+}
+
+impl Method {
+    pub fn from_byte(byte: u8) -> Option<Method> {
+        match byte {
+            1 => Some(Method::Tao),
+            2 => Some(Method::Sao),
+            _ => None,
+        }
+    }
+
+    pub fn byte(self) -> u8 {
+        match self {
+            Method::Tao => 1,
+            Method::Sao => 2,
+        }
+    }
+}
+
+/// Bit 0 keep appendable, bit 1 buffer underrun protection.
+#[derive(Clone, Copy, PartialEq, Eq, Debug)]
+pub struct Flags {
+    pub keep: bool,
+    pub protect: bool,
+}
+
+impl Flags {
+    pub fn from_byte(byte: u8) -> Option<Flags> {
+        if byte > 3 {
+            return None;
+        }
+        Some(Flags {
+            keep: byte & 1 != 0,
+            protect: byte & 2 != 0,
+        })
+    }
+
+    pub fn byte(self) -> u8 {
+        u8::from(self.keep) + 2 * u8::from(self.protect)
+    }
+}
+
+#[derive(Clone, Copy, PartialEq, Eq, Debug)]
+pub struct Track {
+    pub kind: Kind,
+    /// Length in blocks, any value.
+    pub length: u32,
+}
+
+/// An order of tracks. Its count of tracks may be one that no order block
+/// has; `check_count` tells.
+#[derive(Clone, PartialEq, Eq, Debug)]
+pub struct Order {
+    pub method: Method,
+    pub flags: Flags,
+    pub tracks: Vec<Track>,
+}
+
+impl Order {
+    /// Number 3: 1 to 99 tracks.
+    pub fn check_count(&self) -> Result<(), Refusal> {
+        require(
+            (1..=MOST_TRACKS).contains(&self.tracks.len()),
+            Refusal::Field,
+        )
+    }
+
+    /// Number 8, its part about keep appendable.
+    pub fn check_keep(&self) -> Result<(), Refusal> {
+        require(
+            self.method == Method::Tao || !self.flags.keep,
+            Refusal::SessionAtOnce,
+        )
+    }
+
+    /// Number 8: SAO with mixed kinds or with keep appendable.
+    pub fn check_session(&self) -> Result<(), Refusal> {
+        let mixed = self.tracks.windows(2).any(|w| w[0].kind != w[1].kind);
+        require(self.method == Method::Tao || !mixed, Refusal::SessionAtOnce)?;
+        self.check_keep()
+    }
+
+    /// Number 9: each track has at least 300 blocks.
+    pub fn check_lengths(&self) -> Result<(), Refusal> {
+        let short = self.tracks.iter().any(|t| t.length < SHORTEST_TRACK);
+        require(!short, Refusal::ShortTrack)
+    }
+
+    /// S: the blocks of the track with index `first` and of all after it.
+    pub fn blocks_from(&self, first: usize) -> BlockCount {
+        let lengths = self.tracks.iter().skip(first).map(|t| u64::from(t.length));
+        BlockCount(lengths.sum())
+    }
+}
+
+/// Number 10, the lead-out limit.
+pub fn check_lead_out(lead_out: Address) -> Result<(), Refusal> {
+    require(lead_out.0 <= LAST_ADDRESS, Refusal::Fit)
+}

@@ -1,0 +1,125 @@
+//! Demand 3 of the order for work, watched from outside over random jobs: the
+//! recorded blocks are a beginning of the ordered ones, no address takes two
+//! blocks, done means recorded and closed, and the count is that of document
+//! 01.
+
+use second::blocks::{read_order, read_reply, Status, BLOCK};
+use second::commands::{CLOSE_TRACK_SESSION, SYNCHRONIZE_CACHE};
+use second::job::{Answer, Command, Job};
+use second::random;
+use second::rng::Rng;
+use second::units::{Method, Order};
+
+/// What the good replies have brought about so far.
+#[derive(Default)]
+struct Watch {
+    /// Track blocks recorded, in the order of the tracks.
+    recorded: u64,
+    /// End of the latest WRITE answered good.
+    end: Option<i32>,
+    synchronized: usize,
+    tracks_closed: usize,
+    sessions_closed: usize,
+}
+
+impl Watch {
+    fn good(&mut self, order: &Order, command: &Command) {
+        let bytes = command.bytes;
+        match (bytes[0], bytes[2]) {
+            (SYNCHRONIZE_CACHE, _) => self.synchronized += 1,
+            (CLOSE_TRACK_SESSION, 1) => self.tracks_closed += 1,
+            (CLOSE_TRACK_SESSION, _) => self.sessions_closed += 1,
+            _ => {}
+        }
+        let Some(blocks) = command.blocks else { return };
+        let address = i32::from_be_bytes([bytes[2], bytes[3], bytes[4], bytes[5]]);
+        assert!(
+            self.end.is_none_or(|end| address >= end),
+            "an address twice"
+        );
+        self.end = Some(address + blocks.count.0 as i32);
+        if blocks.track.0 > 0 {
+            let before = usize::from(blocks.track.0) - 1;
+            let earlier = order.blocks_from(0).0 - order.blocks_from(before).0;
+            assert_eq!(
+                earlier + blocks.first.0,
+                self.recorded,
+                "not the next block"
+            );
+            let length = u64::from(order.tracks[before].length);
+            assert!(
+                blocks.first.0 + blocks.count.0 <= length,
+                "beyond its track"
+            );
+            self.recorded += blocks.count.0;
+        }
+    }
+
+    fn recorded_and_closed(&self, order: &Order) -> bool {
+        let tracks = order.tracks.len();
+        let closed = match order.method {
+            Method::Tao => {
+                (self.synchronized, self.tracks_closed, self.sessions_closed) == (tracks, tracks, 1)
+            }
+            Method::Sao => self.synchronized == 1,
+        };
+        closed && self.recorded == order.blocks_from(0).0
+    }
+}
+
+/// The count of an all-good job.
+fn all_good_count(order: &Order) -> u64 {
+    let lengths = order.tracks.iter().map(|track| u64::from(track.length));
+    let writes: u64 = lengths.map(|length| length.div_ceil(16)).sum();
+    match order.method {
+        Method::Tao => 4 * order.tracks.len() as u64 + 3 + writes,
+        Method::Sao => 16 + writes,
+    }
+}
+
+/// Follows a job to its end; true where it is done.
+fn follow(bytes: &[u8]) -> bool {
+    let mut blocks = bytes.chunks(BLOCK);
+    let first = blocks.next().unwrap_or(&[]);
+    let (mut job, mut answer) = Job::take(first);
+    let Ok(order) = read_order(first) else {
+        assert!(matches!(answer, Answer::Refused(_)) && job.count() == 0);
+        return false;
+    };
+    let mut watch = Watch::default();
+    let (mut given, mut busy) = (1, 0);
+    for reply in blocks.map_while(|block| read_reply(block).ok()) {
+        let Answer::Command(command) = answer else {
+            break;
+        };
+        assert!(!watch.recorded_and_closed(&order));
+        if reply.status == Status::Good {
+            watch.good(&order, &command);
+        }
+        answer = job.give(&reply);
+        if let Answer::Command(next) = answer {
+            given += 1;
+            busy += u64::from(reply.status == Status::Failed);
+            assert!(
+                reply.status == Status::Good || next == command,
+                "busy moves on"
+            );
+        }
+        assert_eq!(job.count(), given);
+    }
+    let done = answer == Answer::Done;
+    assert_eq!(done, watch.recorded_and_closed(&order));
+    if done {
+        assert_eq!(job.count(), all_good_count(&order) + busy);
+    }
+    done
+}
+
+#[test]
+fn random_jobs_keep_demand_3() {
+    let mut rng = Rng::new(2026);
+    let done = (0..1_500)
+        .filter(|_| follow(&random::job(&mut rng).bytes))
+        .count();
+    assert!(done > 300, "{done}");
+}

@@ -1,0 +1,39 @@
+//! The jobs in the examples folder print what stands beside them.
+
+use second::print::print;
+use second::text::{blocks_of, text_of};
+use std::fs;
+use std::path::{Path, PathBuf};
+
+fn jobs() -> Vec<PathBuf> {
+    let folder = Path::new(env!("CARGO_MANIFEST_DIR")).join("../examples");
+    let entries = fs::read_dir(folder).expect("the examples folder");
+    let paths = entries.map(|entry| entry.expect("an entry").path());
+    paths
+        .filter(|path| path.extension().is_some_and(|extension| extension == "job"))
+        .collect()
+}
+
+#[test]
+fn examples_print_what_is_expected() {
+    let jobs = jobs();
+    assert!(jobs.len() >= 6);
+    for path in jobs {
+        let text = fs::read_to_string(&path).expect("a job");
+        let blocks = blocks_of(&text).expect("a valid job");
+        let mut output = Vec::new();
+        print(blocks.as_slice(), &mut output).expect("writing to memory");
+        let expected = fs::read(path.with_extension("expected")).expect("its output");
+        assert!(output == expected, "{}", path.display());
+    }
+}
+
+/// Text and blocks of an example name the same job, comments apart.
+#[test]
+fn examples_read_back() {
+    for path in jobs() {
+        let text = fs::read_to_string(&path).expect("a job");
+        let blocks = blocks_of(&text).expect("a valid job");
+        assert_eq!(blocks_of(&text_of(&blocks)).expect("a valid job"), blocks);
+    }
+}
