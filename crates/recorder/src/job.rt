@@ -3,7 +3,6 @@ ghost use mathlib.Core.Path.{_≡_};
 ghost use mathlib.Core.Bool.{true};
 ghost use Prim.Native.Nat.{ℕ, _+_, _<_, _^_};
 ghost use lib.IntN.{pos};
-ghost use Rattle.mmc.specs.Order.{isSao};
 ghost use Rattle.mmc.specs.declared.order.Order.{Order};
 ghost use Rattle.recorder.specs.Answers.{issue, said, noBytes, bytesOf};
 ghost use Rattle.recorder.specs.Script.{portion};

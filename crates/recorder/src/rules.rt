@@ -19,6 +19,7 @@ use mmc::units::BlockSum;
 
 // The frames before address 0, and the frames to the last address of a lead-out.
 const LEAD_FRAMES: u64 = 150;
+
 const LAST_FRAME: u64 = 449999;
 
 // The frames to a Next Writable Address.
