@@ -21,12 +21,20 @@ const MOST_LENT: usize = 1 << 20;
 
 type Made = Result<Vec<u8>, Refusal>;
 
+/// The answer to a line that is no request.
+const BAD: &str = "bad request";
+
 /// The answer line to a request line, without a line feed.
 pub fn answer(request: &str) -> String {
     let words: Vec<&str> = request.split_whitespace().collect();
     reader(&words)
         .or_else(|| maker(&words))
-        .unwrap_or_else(|| "bad request".to_string())
+        .unwrap_or_else(|| BAD.to_string())
+}
+
+/// Whether a line is a request.
+pub fn is_request(line: &str) -> bool {
+    answer(line) != BAD
 }
 
 /// Conversions and readers, which lend no buffer.
@@ -136,7 +144,7 @@ fn make_command(name: &str, words: &[&str]) -> Option<Made> {
 }
 
 /// Method, flags, count, and a kind and length for each of up to 99 tracks.
-fn order(words: &[&str]) -> Option<Order> {
+pub(crate) fn order(words: &[&str]) -> Option<Order> {
     let [method, flags, count, pairs @ ..] = words else {
         return None;
     };
@@ -168,7 +176,7 @@ fn track(kind: &str, length: &str) -> Option<Track> {
     })
 }
 
-fn reply(words: &[&str]) -> Option<Reply> {
+pub(crate) fn reply(words: &[&str]) -> Option<Reply> {
     let (status, data) = words.split_first()?;
     Some(Reply {
         status: Status::from_byte(number(status)?)?,
@@ -177,7 +185,7 @@ fn reply(words: &[&str]) -> Option<Reply> {
 }
 
 /// A decimal number of a type's range, without a plus sign.
-fn number<T: FromStr>(word: &str) -> Option<T> {
+pub(crate) fn number<T: FromStr>(word: &str) -> Option<T> {
     if word.starts_with('+') {
         return None;
     }

@@ -3,9 +3,9 @@
 //!
 //! The rules live in `units`, `refusal`, `blocks`, `times`, `page`, `sheet`,
 //! `commands`, `replies`, `job` and `print`. The rest serves comparison with
-//! another program: `layouts` answers requests over the byte layouts, `text`
-//! gives a job in plain text, and `drive`, `random`, `corners` and `requests`
-//! make test material.
+//! another program: `layouts` answers requests over the byte layouts, `packed`
+//! gives them in a binary form, `text` gives a job in plain text, and `drive`,
+//! `random`, `corners` and `requests` make test material.
 
 #![forbid(unsafe_code)]
 
@@ -22,6 +22,7 @@ pub mod times;
 pub mod units;
 
 pub mod layouts;
+pub mod packed;
 pub mod text;
 pub mod wellformed;
 

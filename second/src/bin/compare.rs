@@ -4,18 +4,25 @@
 //!   folder to two print programs
 //! - `compare --lines PROGRAM_A PROGRAM_B FILE` feeds a file of requests once
 //!   to two layouts tools and compares answer by answer
+//! - `compare --requests PROGRAM FILE` feeds the requests of a file once, in
+//!   their binary form, to a program and compares its answers with our own;
+//!   lines that are no requests are left out
 //!
 //! A program is a file's path, or words parted by spaces: a program and its
 //! arguments.
 
+use second::layouts::answer;
+use second::packed::{kept, pack};
 use second::text::{clip, write_text};
 use std::fs::{self, File};
-use std::io::{self, BufReader};
+use std::io::{self, BufReader, Write};
 use std::path::{Path, PathBuf};
-use std::process::{Command, ExitCode, Stdio};
+use std::process::{Command, ExitCode, Output, Stdio};
+use std::thread;
 
 const USAGE: &str = "usage: compare PROGRAM_A PROGRAM_B DIR
-       compare --lines PROGRAM_A PROGRAM_B FILE";
+       compare --lines PROGRAM_A PROGRAM_B FILE
+       compare --requests PROGRAM FILE";
 /// Progress is told after this many jobs.
 const PROGRESS: usize = 500;
 /// A job's text is shown up to this many lines, each up to this wide.
@@ -27,6 +34,7 @@ fn main() -> ExitCode {
     let words: Vec<&str> = words.iter().map(String::as_str).collect();
     let result = match words.as_slice() {
         ["--lines", a, b, file] => compare_lines(a, b, Path::new(file)),
+        ["--requests", program, file] => compare_requests(program, Path::new(file)),
         [a, b, dir] => compare_jobs(a, b, Path::new(dir)),
         _ => Err(USAGE.to_string()),
     };
@@ -49,6 +57,27 @@ fn output_of(program: &str, input: &Path) -> Result<Vec<u8>, String> {
         .stderr(Stdio::inherit())
         .output()
         .map_err(fault)?;
+    written_by(program, output)
+}
+
+/// A program's whole output for an input in memory.
+fn output_for(program: &str, input: &[u8]) -> Result<Vec<u8>, String> {
+    let fault = |error: io::Error| format!("{program}: {error}");
+    let mut child = command(program)?
+        .stdin(Stdio::piped())
+        .stdout(Stdio::piped())
+        .spawn()
+        .map_err(fault)?;
+    let stdin = child.stdin.take();
+    let output = thread::scope(|scope| {
+        // A program that stops reading shows in its answers.
+        scope.spawn(move || stdin.map(|mut stdin| stdin.write_all(input)));
+        child.wait_with_output()
+    });
+    written_by(program, output.map_err(fault)?)
+}
+
+fn written_by(program: &str, output: Output) -> Result<Vec<u8>, String> {
     match output.status.code() {
         Some(_) => Ok(output.stdout),
         None => Err(format!("{program}: ended by a signal")),
@@ -188,5 +217,29 @@ fn compare_lines(a: &str, b: &str, file: &Path) -> Result<bool, String> {
         return Ok(false);
     }
     println!("{} lines, 0 differences", requests.len());
+    Ok(true)
+}
+
+fn compare_requests(program: &str, file: &Path) -> Result<bool, String> {
+    let text = fs::read_to_string(file).map_err(|error| format!("{}: {error}", file.display()))?;
+    let requests = kept(&text);
+    if requests.is_empty() {
+        return Err(format!("{}: no requests", file.display()));
+    }
+    let (mut packed, mut answers) = (Vec::new(), String::new());
+    for request in &requests {
+        packed.extend(pack(request)?);
+        answers += &answer(request);
+        answers.push('\n');
+    }
+    let output = output_for(program, &packed)?;
+    if let Some((number, theirs, ours)) = first_difference(&output, answers.as_bytes()) {
+        let request = requests.get(number - 1).unwrap_or(&"(no request)");
+        println!("request {number}: {request}");
+        println!("  {program}: {theirs}\n  expected: {ours}");
+        println!("{number} requests, 1 difference");
+        return Ok(false);
+    }
+    println!("{} requests, 0 differences", requests.len());
     Ok(true)
 }

@@ -1,0 +1,191 @@
+// Requests that convert a number or read bytes. They answer `ok` and what was read, or `refused` and
+// the refusal's number.
+use crate::line::put_bytes;
+use crate::line::put_next;
+use crate::line::put_number;
+use crate::line::put_signed;
+use crate::line::put_text;
+use crate::request::address_at;
+use crate::request::from;
+use crate::request::one_at;
+use mmc::order::Kind;
+use mmc::order::Method;
+use mmc::order::Order;
+use mmc::order::Track;
+use mmc::order_block::read_order;
+use mmc::refusals::Check;
+use mmc::refusals::Refusal;
+use mmc::refusals::number;
+use mmc::reply_block::ReplyRead;
+use mmc::reply_block::read_reply;
+use mmc::reply_block::reply_data;
+use mmc::sheet::Sheet;
+use mmc::sheet::read_sheet;
+use mmc::times::AddressAnswer;
+use mmc::times::Time;
+use mmc::times::TimeAnswer;
+use mmc::times::address_of;
+use mmc::times::time_of;
+
+// Puts a refusal with its number.
+pub(crate) fn put_refusal(line: &mut [u8], r: Refusal) -> usize {
+    let next = put_text(line, 0, b"refused ");
+    put_number(line, next, number(r) as u64)
+}
+
+// Puts `ok` and a number behind it.
+fn put_first(line: &mut [u8], n: u64) -> usize {
+    let next = put_text(line, 0, b"ok ");
+    put_number(line, next, n)
+}
+
+// Puts a time.
+fn put_time(line: &mut [u8], t: Time) -> usize {
+    let second = put_first(line, t.minute as u64);
+    let frame = put_next(line, second, t.second as u64);
+    put_next(line, frame, t.frame as u64)
+}
+
+// Answers `time`.
+fn time_line(b: &[u8], line: &mut [u8]) -> usize {
+    let answer = time_of(address_at(b, 1));
+    match answer {
+        TimeAnswer::At(t) => put_time(line, t),
+        TimeAnswer::Refused(r) => put_refusal(line, r),
+    }
+}
+
+// Answers `address`.
+fn address_line(b: &[u8], line: &mut [u8]) -> usize {
+    let time = Time {
+        minute: one_at(b, 1),
+        second: one_at(b, 2),
+        frame: one_at(b, 3),
+    };
+    let answer = address_of(time);
+    match answer {
+        AddressAnswer::At(a) => {
+            let next = put_text(line, 0, b"ok ");
+            put_signed(line, next, a.0)
+        }
+        AddressAnswer::Refused(r) => put_refusal(line, r),
+    }
+}
+
+// The number of a kind.
+fn kind_number(k: Kind) -> u64 {
+    match k {
+        Kind::Audio => 0,
+        Kind::Data => 1,
+    }
+}
+
+// The number of a method.
+fn method_number(m: Method) -> u64 {
+    match m {
+        Method::Tao => 1,
+        Method::Sao => 2,
+    }
+}
+
+// The number of the flags.
+fn flags_number(keep: bool, protect: bool) -> u64 {
+    if keep {
+        if protect { 3 } else { 1 }
+    } else {
+        if protect { 2 } else { 0 }
+    }
+}
+
+// Puts a track: its kind where kinds are asked for, and its length.
+fn put_track(line: &mut [u8], at: usize, kinds: bool, t: Track) -> usize {
+    let kind = t.kind;
+    let length = t.length.0 as u64;
+    if kinds {
+        let next = put_next(line, at, kind_number(kind));
+        put_next(line, next, length)
+    } else {
+        put_next(line, at, length)
+    }
+}
+
+// Puts the first so many tracks.
+fn put_tracks(line: &mut [u8], at: usize, kinds: bool, count: u8, tracks: [Track; 99]) -> usize {
+    let n = count as usize;
+    let mut end = at;
+    let mut i: usize = 0;
+    while i < 99 && i < n {
+        end = put_track(line, end, kinds, tracks[i]);
+        i = i + 1;
+    }
+    end
+}
+
+// Puts an order.
+fn put_order(line: &mut [u8], o: Order) -> usize {
+    let method = o.method;
+    let count = o.count;
+    let tracks = o.tracks;
+    let flags = put_first(line, method_number(method));
+    let counted = put_next(line, flags, flags_number(o.keep, o.protect));
+    let listed = put_next(line, counted, count as u64);
+    put_tracks(line, listed, true, count, tracks)
+}
+
+// Answers `order-read`.
+fn order_line(b: &[u8], line: &mut [u8]) -> usize {
+    let read = read_order(from(b, 1));
+    let check = read.check;
+    match check {
+        Check::Passed => put_order(line, read.order),
+        Check::Refused(r) => put_refusal(line, r),
+    }
+}
+
+// Puts a reply's status and data.
+fn put_reply(line: &mut [u8], status: &[u8], bytes: &[u8]) -> usize {
+    let next = put_text(line, 0, status);
+    put_bytes(line, next, bytes)
+}
+
+// Answers `reply-read`.
+fn reply_line(b: &[u8], line: &mut [u8]) -> usize {
+    let block = from(b, 1);
+    let read = read_reply(block);
+    match read {
+        ReplyRead::Good(n) => put_reply(line, b"ok 0 ", reply_data(block, n)),
+        ReplyRead::Failed(n) => put_reply(line, b"ok 1 ", reply_data(block, n)),
+        ReplyRead::Refused(r) => put_refusal(line, r),
+    }
+}
+
+// Puts a sheet's kind and lengths.
+fn put_sheet(line: &mut [u8], s: Sheet) -> usize {
+    let kind = s.kind;
+    let count = s.count;
+    let tracks = s.tracks;
+    let counted = put_first(line, kind_number(kind));
+    let listed = put_next(line, counted, count as u64);
+    put_tracks(line, listed, false, count, tracks)
+}
+
+// Answers `sheet-read`.
+fn sheet_line(b: &[u8], line: &mut [u8]) -> usize {
+    let read = read_sheet(from(b, 1));
+    let check = read.check;
+    match check {
+        Check::Passed => put_sheet(line, read.sheet),
+        Check::Refused(r) => put_refusal(line, r),
+    }
+}
+
+// Answers a request of operation 1 to 5.
+pub(crate) fn read_line(op: u32, b: &[u8], line: &mut [u8]) -> usize {
+    match op {
+        1 => time_line(b, line),
+        2 => address_line(b, line),
+        3 => order_line(b, line),
+        4 => reply_line(b, line),
+        _ => sheet_line(b, line),
+    }
+}
