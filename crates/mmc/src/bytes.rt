@@ -84,7 +84,7 @@ pub(crate) fn put(out: &mut [u8], at: usize, s: &[u8])
 }
 
 // The whole answer s goes to the start of a lent buffer, or none of it does.
-pub(crate) fn fill(s: &[u8], out: &mut [u8]) -> Made
+pub fn fill(s: &[u8], out: &mut [u8]) -> Made
     ensures { λ r. ⌜ Fills (pass (now (s .entry))) r (now (out .entry)) (now (out .exit)) ⌝ }
 {
     let n = s.len();

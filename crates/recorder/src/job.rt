@@ -315,15 +315,15 @@ fn good_move(o: Order, s: Progress, bytes: &[u8]) -> Move
 {
     let m = o.method;
     let n = o.count;
-    let t = s.track.0;
+    let length = piece_length(o, s.track.0);
     let place = s.place;
     match place {
         Place::AtConfiguration => after_profile(s, bytes),
         Place::AtDiscInformation => after_status(s, bytes),
         Place::AtTrackInformation => after_information(o, s, bytes),
-        Place::AtPage => Move::Onward(after_page(m, n, piece_length(o, t), s)),
+        Place::AtPage => Move::Onward(after_page(m, n, length, s)),
         Place::AtCueSheet => Move::Onward(moved_to(s, Place::AtWrite(BlockCount(0)), 0, s.at.0)),
-        Place::AtWrite(f) => Move::Onward(after_write(m, n, piece_length(o, t), s, f.0)),
+        Place::AtWrite(f) => Move::Onward(after_write(m, n, length, s, f.0)),
         Place::AtSynchronize => after_synchronize(m, s),
         Place::AtCloseTrack => Move::Onward(after_close_track(n, s)),
         Place::AtCloseSession => Move::Finish,
@@ -375,40 +375,22 @@ fn command_bytes(tracks: u8, c: Command) -> [u8; 10]
     ensures { λ r. ⌜ ((o : Order) → o .count ≡ tracks → r ≡ bytesOf o (issue c)) ⌝ }
 {
     let mut out = [0u8; 10];
-    match c {
-        Command::GetConfiguration => {
-            get_configuration(&mut out);
-        }
-        Command::ReadDiscInformation => {
-            read_disc_information(&mut out);
-        }
-        Command::ReadTrackInformation => {
-            read_track_information(&mut out);
-        }
-        Command::ModeSelect(_) => {
-            mode_select(&mut out);
-        }
-        Command::SendCueSheet => {
-            send_cue_sheet(8 * (tracks as usize + 3), &mut out);
-        }
+    let _made = match c {
+        Command::GetConfiguration => get_configuration(&mut out),
+        Command::ReadDiscInformation => read_disc_information(&mut out),
+        Command::ReadTrackInformation => read_track_information(&mut out),
+        Command::ModeSelect(_) => mode_select(&mut out),
+        Command::SendCueSheet => send_cue_sheet(8 * (tracks as usize + 3), &mut out),
         Command::Write {
             track: _,
             first: _,
             count,
             address,
-        } => {
-            write(address, count, &mut out);
-        }
-        Command::SynchronizeCache => {
-            synchronize_cache(&mut out);
-        }
-        Command::CloseTrack => {
-            close_track_session(1, TrackNumber(0xFF), &mut out);
-        }
-        Command::CloseSession => {
-            close_track_session(2, TrackNumber(0), &mut out);
-        }
-    }
+        } => write(address, count, &mut out),
+        Command::SynchronizeCache => synchronize_cache(&mut out),
+        Command::CloseTrack => close_track_session(1, TrackNumber(0xFF), &mut out),
+        Command::CloseSession => close_track_session(2, TrackNumber(0), &mut out),
+    };
     out
 }
 
@@ -532,17 +514,19 @@ fn stands_at(o: Order, s: Progress) -> bool
     let m = o.method;
     let n = o.count;
     let t = s.track.0;
+    let sao = is_sao(m);
+    let begun = in_job(m, n, t);
     let place = s.place;
     match place {
         Place::AtConfiguration => true,
         Place::AtDiscInformation => true,
         Place::AtTrackInformation => t < n as u16,
-        Place::AtPage => in_job(m, n, t),
-        Place::AtCueSheet => is_sao(m) && in_job(m, n, t),
-        Place::AtWrite(f) => in_job(m, n, t) && in_piece(piece_length(o, t), f.0, s.at.0),
-        Place::AtSynchronize => in_job(m, n, t),
-        Place::AtCloseTrack => !is_sao(m) && in_job(m, n, t),
-        Place::AtCloseSession => !is_sao(m),
+        Place::AtPage => begun,
+        Place::AtCueSheet => sao && begun,
+        Place::AtWrite(f) => begun && in_piece(piece_length(o, t), f.0, s.at.0),
+        Place::AtSynchronize => begun,
+        Place::AtCloseTrack => !sao && begun,
+        Place::AtCloseSession => !sao,
         Place::Finished => true,
         Place::Stopped => true,
     }

@@ -36,7 +36,7 @@ use Rattle.recorder.specs.Script.{portion}
 use Rattle.recorder.specs.Rules.{lastFrame}
 use Rattle.recorder.specs.declared.job.Move.{Move}
 use Rattle.recorder.specs.declared.job.Move.the-variants as M
-use Rattle.recorder.specs.Job.{Next, pieceOf, lengthAt, pendingAt, pendingOf, movedTo, placedAt, startAt, begunAt, pieceEnded, Turn, onward, halt, turnIn, goodAt, counted, stateOf, nextOf, stepOf, unchanged, endedOf, someTracks, inJob, inPiece, standsAt, validOf, opening, takenAs, takeOf, afterFailure, turnOf, giveOf}
+use Rattle.recorder.specs.Job.{Next, pieceOf, lengthAt, pendingAt, pendingOf, movedTo, placedAt, startAt, begunAt, pieceEnded, afterPage, afterWrite, Turn, onward, halt, turnIn, goodAt, counted, stateOf, nextOf, stepOf, unchanged, endedOf, someTracks, inJob, inPiece, standsAt, validOf, opening, takenAs, takeOf, afterFailure, turnOf, giveOf}
 
 -- a step from its parts
 abbrev pub plain : Order → Progress → ℕ → Ruling → List ℕ → Next
@@ -139,8 +139,18 @@ write-fits o s f l e q v =
 
 -- ---- a good reply
 
-pub good-at : (o : Order) (s : Progress) (d : List ℕ) (p : Place) {m : Turn} → s .place ≡ p → m ≡ goodAt p o s d → m ≡ goodAt (s .place) o s d
-good-at o s d p e q = q ∙ ap (λ (x : Place). goodAt x o s d) (sym e)
+module _ (o : Order) (s : Progress) (d : List ℕ) where
+  pub good-at : (p : Place) {m : Turn} → s .place ≡ p → m ≡ goodAt p o s d → m ≡ goodAt (s .place) o s d
+  good-at p e q = q ∙ ap (λ (x : Place). goodAt x o s d) (sym e)
+
+  module _ {l : ℕ} {r : Progress} (z : l ≡ lengthAt o s) where
+    pub good-page : s .place ≡ AtPage → r ≡ afterPage (o .method) (o .count) l s → onward r ≡ goodAt (s .place) o s d
+    unfolding goodAt
+    good-page e q = good-at AtPage e (ap onward (q ∙ ap (λ (x : ℕ). afterPage (o .method) (o .count) x s) z))
+
+    pub good-write : (f : BlockCount) → s .place ≡ AtWrite f → r ≡ afterWrite (o .method) (o .count) l s (f .0) → onward r ≡ goodAt (s .place) o s d
+    unfolding goodAt
+    good-write f e q = good-at (AtWrite f) e (ap onward (q ∙ ap (λ (x : ℕ). afterWrite (o .method) (o .count) x s (f .0)) z))
 
 -- ---- an order that is taken
 

@@ -1,13 +1,16 @@
-use mathlib.Core.Path.{refl, ap, _∙_}
-use Prim.Native.Nat.{ℕ, _<_}
-use Rattle.recorder.specs.Job.{onward, afterPage, afterWrite, goodAt}
-use Rattle.recorder.proofs.job.Laws.{few-tracks, write-fits, good-at}
+use mathlib.Core.Path.{refl, ap}
+use Prim.Native.Nat.{_<_}
+use Rattle.recorder.specs.Job.{onward, goodAt}
+use Rattle.recorder.proofs.job.Laws.{few-tracks, write-fits, good-at, good-page, good-write}
 use borrow.Author.Needs.{needs}
 use Rattle.recorder.proofs.job.good_move.Statement.{statement}
 use Rattle.recorder.proofs.job.good_move.Tie as tie
 
 few : (c : tie.Start) → c .args .o .count < 256
 few c = search needs
+
+piece-length-requires : tie.Need-piece-length-requires
+piece-length-requires c κs = search needs
 
 enum-told : tie.Need-enum-told
 enum-told c = search needs
@@ -26,14 +29,11 @@ enum-told-3 c = search needs
 
 after-information-requires : tie.Need-after-information-requires
 after-information-requires c κs =
-    let t = c .before .before .before in
+    let t = c .before .before .before .before in
     few-tracks (t .args .o) (t .args .s) (c .enum-told3 .given .1) (few t) (t .pre)
 
 enum-told-4 : tie.Need-enum-told-4
 enum-told-4 c = search needs
-
-piece-length-requires : tie.Need-piece-length-requires
-piece-length-requires c κs = search needs
 
 after-page-requires : tie.Need-after-page-requires
 after-page-requires c κs = search needs
@@ -47,14 +47,12 @@ moved-to-requires c κs = search needs
 enum-known-place : tie.Need-enum-known-place
 enum-known-place c = search needs
 
-piece-length-requires-2 : tie.Need-piece-length-requires-2
-piece-length-requires-2 c κs = search needs
-
 after-write-requires : tie.Need-after-write-requires
 after-write-requires c κs =
-    let k = c .before .before in
-    let t = k .before .before .before in
-    write-fits (t .args .o) (t .args .s) (k .place .given .0 .0) _ (k .place .given .1) (c .piece-length2 .ensures) (t .pre)
+    let p = c .before .place .given in
+    let k = c .before .before .before in
+    let t = k .before .before in
+    write-fits (t .args .o) (t .args .s) (p .0 .0) _ (p .1) (k .piece-length .ensures) (t .pre)
 
 enum-told-6 : tie.Need-enum-told-6
 enum-told-6 c = search needs
@@ -80,75 +78,75 @@ enum-told-10 c = search needs
 returns : tie.Need-returns
 unfolding goodAt
 returns c =
-    let a = c .before .before .before .before .args in
+    let a = c .before .before .before .before .before .args in
     good-at (a .o) (a .s) (a .bytes .now) _ (c .before .enum-told .given .1) (c .after-profile .ensures)
 
 returns-2 : tie.Need-returns-2
 unfolding goodAt
 returns-2 c =
-    let a = c .before .before .before .before .args in
+    let a = c .before .before .before .before .before .args in
     good-at (a .o) (a .s) (a .bytes .now) _ (c .before .enum-told2 .given .1) (c .after-status .ensures)
 
 returns-3 : tie.Need-returns-3
 unfolding goodAt
 returns-3 c =
-    let a = c .before .before .before .before .args in
+    let a = c .before .before .before .before .before .args in
     good-at (a .o) (a .s) (a .bytes .now) _ (c .before .enum-told3 .given .1) (c .after-information .ensures)
 
 returns-4 : tie.Need-returns-4
-unfolding goodAt
 returns-4 c =
-    let a = c .before .before .before .before .before .args in
-    good-at (a .o) (a .s) (a .bytes .now) _ (c .before .before .enum-told4 .given .1) (ap onward (c .after-page .ensures ∙ ap (λ (l : ℕ). afterPage (a .o .method) (a .o .count) l (a .s)) (c .before .piece-length .ensures)))
+    let k = c .before .before .before in
+    let a = k .before .before .args in
+    good-page (a .o) (a .s) (a .bytes .now) (k .piece-length .ensures) (c .before .enum-told4 .given .1) (c .after-page .ensures)
 
 returns-5 : tie.Need-returns-5
 unfolding goodAt
 returns-5 c =
-    let a = c .before .before .before .before .args in
+    let a = c .before .before .before .before .before .args in
     good-at (a .o) (a .s) (a .bytes .now) _ (c .before .enum-told5 .given .1) (ap onward (c .moved-to .ensures))
 
 returns-6 : tie.Need-returns-6
-unfolding goodAt
 returns-6 c =
-    let k = c .before .before .before in
-    let a = k .before .before .before .args in
-    let f = k .place .given .0 .0 in
-    good-at (a .o) (a .s) (a .bytes .now) _ (k .place .given .1) (ap onward (c .after-write .ensures ∙ ap (λ (l : ℕ). afterWrite (a .o .method) (a .o .count) l (a .s) (f .0)) (c .before .piece-length2 .ensures)))
+    let p = c .before .before .place .given in
+    let k = c .before .before .before .before in
+    let a = k .before .before .args in
+    good-write (a .o) (a .s) (a .bytes .now) (k .piece-length .ensures) (p .0 .0) (p .1) (c .after-write .ensures)
 
 returns-7 : tie.Need-returns-7
 unfolding goodAt
 returns-7 c =
-    let a = c .before .before .before .before .args in
+    let a = c .before .before .before .before .before .args in
     good-at (a .o) (a .s) (a .bytes .now) _ (c .before .enum-told6 .given .1) (c .after-synchronize .ensures)
 
 returns-8 : tie.Need-returns-8
 unfolding goodAt
 returns-8 c =
-    let a = c .before .before .before .before .args in
+    let a = c .before .before .before .before .before .args in
     good-at (a .o) (a .s) (a .bytes .now) _ (c .before .enum-told7 .given .1) (ap onward (c .after-close-track .ensures))
 
 returns-9 : tie.Need-returns-9
 unfolding goodAt
 returns-9 c =
-    let a = c .before .before .before .args in
+    let a = c .before .before .before .before .args in
     good-at (a .o) (a .s) (a .bytes .now) _ (c .enum-told8 .given .1) (refl)
 
 returns-10 : tie.Need-returns-10
 unfolding goodAt
 returns-10 c =
-    let a = c .before .before .before .args in
+    let a = c .before .before .before .before .args in
     good-at (a .o) (a .s) (a .bytes .now) _ (c .enum-told9 .given .1) (refl)
 
 returns-11 : tie.Need-returns-11
 unfolding goodAt
 returns-11 c =
-    let a = c .before .before .before .args in
+    let a = c .before .before .before .before .args in
     good-at (a .o) (a .s) (a .bytes .now) _ (c .enum-told10 .given .1) (refl)
 
 pub good-move-spec : {M : Type 1} → statement M
 good-move-spec =
     tie.close
     (tie.spec
+    piece-length-requires
     enum-told
     after-profile-requires
     enum-told-2
@@ -156,12 +154,10 @@ good-move-spec =
     enum-told-3
     after-information-requires
     enum-told-4
-    piece-length-requires
     after-page-requires
     enum-told-5
     moved-to-requires
     enum-known-place
-    piece-length-requires-2
     after-write-requires
     enum-told-6
     after-synchronize-requires

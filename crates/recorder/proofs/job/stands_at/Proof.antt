@@ -7,6 +7,12 @@ use borrow.Author.Needs.{needs}
 use Rattle.recorder.proofs.job.stands_at.Statement.{statement}
 use Rattle.recorder.proofs.job.stands_at.Tie as tie
 
+is-sao-requires : tie.Need-is-sao-requires
+is-sao-requires c κs = search needs
+
+in-job-requires : tie.Need-in-job-requires
+in-job-requires c κs = search needs
+
 enum-told : tie.Need-enum-told
 enum-told c = search needs
 
@@ -22,23 +28,11 @@ cast-result c = search needs
 enum-told-4 : tie.Need-enum-told-4
 enum-told-4 c = search needs
 
-in-job-requires : tie.Need-in-job-requires
-in-job-requires c κs = search needs
-
 enum-told-5 : tie.Need-enum-told-5
 enum-told-5 c = search needs
 
-is-sao-requires : tie.Need-is-sao-requires
-is-sao-requires c κs = search needs
-
-in-job-requires-2 : tie.Need-in-job-requires-2
-in-job-requires-2 c κs = search needs
-
 enum-known-place : tie.Need-enum-known-place
 enum-known-place c = search needs
-
-in-job-requires-3 : tie.Need-in-job-requires-3
-in-job-requires-3 c κs = search needs
 
 piece-length-requires : tie.Need-piece-length-requires
 piece-length-requires c κs = search needs
@@ -49,23 +43,11 @@ in-piece-requires c κs = search needs
 enum-told-6 : tie.Need-enum-told-6
 enum-told-6 c = search needs
 
-in-job-requires-4 : tie.Need-in-job-requires-4
-in-job-requires-4 c κs = search needs
-
 enum-told-7 : tie.Need-enum-told-7
 enum-told-7 c = search needs
 
-is-sao-requires-2 : tie.Need-is-sao-requires-2
-is-sao-requires-2 c κs = search needs
-
-in-job-requires-5 : tie.Need-in-job-requires-5
-in-job-requires-5 c κs = search needs
-
 enum-told-8 : tie.Need-enum-told-8
 enum-told-8 c = search needs
-
-is-sao-requires-3 : tie.Need-is-sao-requires-3
-is-sao-requires-3 c κs = search needs
 
 enum-told-9 : tie.Need-enum-told-9
 enum-told-9 c = search needs
@@ -76,112 +58,120 @@ enum-told-10 c = search needs
 returns : tie.Need-returns
 unfolding standsAt
 returns c =
-    let a = c .before .before .args in
+    let k = c .before .before in
+    let a = k .before .before .args in
     stands (a .o) (a .s) _ (c .enum-told .given .1) (refl)
 
 returns-2 : tie.Need-returns-2
 unfolding standsAt
 returns-2 c =
-    let a = c .before .before .args in
+    let k = c .before .before in
+    let a = k .before .before .args in
     stands (a .o) (a .s) _ (c .enum-told2 .given .1) (refl)
 
 returns-3 : tie.Need-returns-3
 unfolding standsAt
 returns-3 c =
-    let a = c .before .before .args in
+    let k = c .before .before in
+    let a = k .before .before .args in
     stands (a .o) (a .s) _ (c .enum-told3 .given .1) (refl)
 
 returns-4 : tie.Need-returns-4
 unfolding standsAt
 returns-4 c =
-    let a = c .before .before .before .args in
-    stands (a .o) (a .s) _ (c .before .enum-told4 .given .1) (c .in-job .ensures)
+    let k = c .before .before in
+    let a = k .before .before .args in
+    stands (a .o) (a .s) _ (c .enum-told4 .given .1) (k .in-job .ensures)
 
 returns-5 : tie.Need-returns-5
 unfolding standsAt
 returns-5 c =
-    let a = c .before .before .before .before .before .args in
-    stands (a .o) (a .s) _ (c .before .before .before .enum-told5 .given .1) (and-yes _ (c .before .before .is-sao .ensures) (c .before .if1 .taken) (c .in-job2 .ensures))
+    let k = c .before .before .before in
+    let a = k .before .before .args in
+    stands (a .o) (a .s) _ (c .before .enum-told5 .given .1) (and-yes _ (k .before .is-sao .ensures) (c .if1 .taken) (k .in-job .ensures))
 
 returns-6 : tie.Need-returns-6
 unfolding standsAt
 returns-6 c =
-    let a = c .before .before .before .before .args in
-    stands (a .o) (a .s) _ (c .before .before .enum-told5 .given .1) (and-no _ (c .before .is-sao .ensures) (c .if1 .left))
+    let k = c .before .before .before in
+    let a = k .before .before .args in
+    stands (a .o) (a .s) _ (c .before .enum-told5 .given .1) (and-no _ (k .before .is-sao .ensures) (c .if1 .left))
 
 returns-7 : tie.Need-returns-7
 unfolding standsAt
 returns-7 c =
-    let a = c .before .before .before .before .before .before .before .args in
-    let f = c .before .before .before .before .before .place .given .0 .0 in
-    stands (a .o) (a .s) _ (c .before .before .before .before .before .place .given .1) (and-yes _ (c .before .before .before .in-job3 .ensures) (c .before .before .if2 .taken) (c .in-piece .ensures ∙ ap (λ (l : ℕ). inPiece l (f .0) (a .s .at .0)) (c .before .piece-length .ensures)))
+    let k = c .before .before .before .before .before .before in
+    let a = k .before .before .args in
+    let p = c .before .before .before .before in
+    stands (a .o) (a .s) _ (p .place .given .1) (and-yes _ (k .in-job .ensures) (c .before .before .if2 .taken) (c .in-piece .ensures ∙ ap (λ (l : ℕ). inPiece l (p .place .given .0 .0 .0) (a .s .at .0)) (c .before .piece-length .ensures)))
 
 returns-8 : tie.Need-returns-8
 unfolding standsAt
 returns-8 c =
-    let a = c .before .before .before .before .before .args in
-    stands (a .o) (a .s) _ (c .before .before .before .place .given .1) (and-no _ (c .before .in-job3 .ensures) (c .if2 .left))
+    let k = c .before .before .before .before in
+    let a = k .before .before .args in
+    stands (a .o) (a .s) _ (c .before .before .place .given .1) (and-no _ (k .in-job .ensures) (c .if2 .left))
 
 returns-9 : tie.Need-returns-9
 unfolding standsAt
 returns-9 c =
-    let a = c .before .before .before .args in
-    stands (a .o) (a .s) _ (c .before .enum-told6 .given .1) (c .in-job4 .ensures)
+    let k = c .before .before in
+    let a = k .before .before .args in
+    stands (a .o) (a .s) _ (c .enum-told6 .given .1) (k .in-job .ensures)
 
 returns-10 : tie.Need-returns-10
 unfolding standsAt
 returns-10 c =
-    let a = c .before .before .before .before .before .args in
-    stands (a .o) (a .s) _ (c .before .before .before .enum-told7 .given .1) (and-yes _ (ap not (c .before .before .is-sao2 .ensures)) (c .before .if3 .taken) (c .in-job5 .ensures))
+    let k = c .before .before .before in
+    let a = k .before .before .args in
+    stands (a .o) (a .s) _ (c .before .enum-told7 .given .1) (and-yes _ (ap not (k .before .is-sao .ensures)) (c .if3 .taken) (k .in-job .ensures))
 
 returns-11 : tie.Need-returns-11
 unfolding standsAt
 returns-11 c =
-    let a = c .before .before .before .before .args in
-    stands (a .o) (a .s) _ (c .before .before .enum-told7 .given .1) (and-no _ (ap not (c .before .is-sao2 .ensures)) (c .if3 .left))
+    let k = c .before .before .before in
+    let a = k .before .before .args in
+    stands (a .o) (a .s) _ (c .before .enum-told7 .given .1) (and-no _ (ap not (k .before .is-sao .ensures)) (c .if3 .left))
 
 returns-12 : tie.Need-returns-12
 unfolding standsAt
 returns-12 c =
-    let a = c .before .before .before .args in
-    stands (a .o) (a .s) _ (c .before .enum-told8 .given .1) (ap not (c .is-sao3 .ensures))
+    let k = c .before .before in
+    let a = k .before .before .args in
+    stands (a .o) (a .s) _ (c .enum-told8 .given .1) (ap not (k .before .is-sao .ensures))
 
 returns-13 : tie.Need-returns-13
 unfolding standsAt
 returns-13 c =
-    let a = c .before .before .args in
+    let k = c .before .before in
+    let a = k .before .before .args in
     stands (a .o) (a .s) _ (c .enum-told9 .given .1) (refl)
 
 returns-14 : tie.Need-returns-14
 unfolding standsAt
 returns-14 c =
-    let a = c .before .before .args in
+    let k = c .before .before in
+    let a = k .before .before .args in
     stands (a .o) (a .s) _ (c .enum-told10 .given .1) (refl)
 
 pub stands-at-spec : {M : Type 1} → statement M
 stands-at-spec =
     tie.close
     (tie.spec
+    is-sao-requires
+    in-job-requires
     enum-told
     enum-told-2
     enum-told-3
     cast-result
     enum-told-4
-    in-job-requires
     enum-told-5
-    is-sao-requires
-    in-job-requires-2
     enum-known-place
-    in-job-requires-3
     piece-length-requires
     in-piece-requires
     enum-told-6
-    in-job-requires-4
     enum-told-7
-    is-sao-requires-2
-    in-job-requires-5
     enum-told-8
-    is-sao-requires-3
     enum-told-9
     enum-told-10
     returns

@@ -1,0 +1,95 @@
+// The lines that the print program writes: each answer of the recorder as a line of text, put whole into a lent buffer.
+mod text;
+
+ghost use mathlib.Core.Path.{_≡_};
+ghost use Prim.Native.Nat.{_+_, _≤_};
+ghost use lib.ListN.{length};
+ghost use Rattle.mmc.specs.Refusals.{numberOf};
+ghost use Rattle.recorder.specs.Answers.{said};
+ghost use Rattle.lines.specs.Text.{Adds};
+ghost use Rattle.lines.specs.Lines.{commandLine, countedLine, waitingLine, stopText, stopLine, failedLine, lineOf, Writes};
+use crate::text::add;
+use crate::text::add_decimal;
+use crate::text::add_hex;
+use mmc::bytes::fill;
+use mmc::refusals::Made;
+use mmc::refusals::Refusal;
+use mmc::refusals::number;
+use recorder::job::Answer;
+use recorder::replies::Sense;
+
+// A command's bytes.
+fn command_line(bytes: &[u8], out: &mut [u8]) -> Made
+    requires { ⌜ length (now bytes) ≡ 10 ⌝ }
+    ensures { λ r. ⌜ Writes (commandLine (now (bytes .entry))) r (now (out .entry)) (now (out .exit)) ⌝ }
+{
+    let mut line = [0u8; 64];
+    let a = add_hex(&mut line, 0, bytes);
+    let end = add(&mut line, a, b"\n");
+    fill(&line[0..end], out)
+}
+
+// A word and the count.
+fn counted_line(word: &[u8], count: u64, out: &mut [u8]) -> Made
+    requires { ⌜ length (now word) ≤ 8 ⌝ }
+    ensures { λ r. ⌜ Writes (countedLine (now (word .entry)) count) r (now (out .entry)) (now (out .exit)) ⌝ }
+{
+    let mut line = [0u8; 64];
+    let a = add(&mut line, 0, word);
+    let b = add_decimal(&mut line, a, count);
+    let end = add(&mut line, b, b"\n");
+    fill(&line[0..end], out)
+}
+
+// `waiting N`, where replies run out.
+pub fn waiting_line(count: u64, out: &mut [u8]) -> Made
+    ensures { λ r. ⌜ Writes (waitingLine count) r (now (out .entry)) (now (out .exit)) ⌝ }
+{
+    counted_line(b"waiting ", count, out)
+}
+
+// Writes `stop R N` at the start of a line.
+fn add_stop(line: &mut [u8], number: u8, count: u64) -> usize
+    requires { ⌜ 46 ≤ length (now line) ⌝ }
+    ensures { λ r. ⌜ (Adds (stopText number count) 0 (now (line .entry)) r (now (line .exit))) × (r ≤ 46) ⌝ }
+{
+    let a = add(line, 0, b"stop ");
+    let b = add_decimal(line, a, number as u64);
+    let c = add(line, b, b" ");
+    add_decimal(line, c, count)
+}
+
+// `stop R N`, by the refusal.
+pub fn stop_line(refusal: Refusal, count: u64, out: &mut [u8]) -> Made
+    ensures { λ r. ⌜ Writes (stopLine (numberOf refusal) count) r (now (out .entry)) (now (out .exit)) ⌝ }
+{
+    let mut line = [0u8; 64];
+    let a = add_stop(&mut line, number(refusal), count);
+    let end = add(&mut line, a, b"\n");
+    fill(&line[0..end], out)
+}
+
+// `stop 12 N KK AA QQ`, the triple in hex.
+fn failed_line(sense: Sense, count: u64, out: &mut [u8]) -> Made
+    ensures { λ r. ⌜ Writes (failedLine sense count) r (now (out .entry)) (now (out .exit)) ⌝ }
+{
+    let triple = [sense.key, sense.asc, sense.ascq];
+    let mut line = [0u8; 64];
+    let a = add_stop(&mut line, 12, count);
+    let b = add(&mut line, a, b" ");
+    let c = add_hex(&mut line, b, &triple);
+    let end = add(&mut line, c, b"\n");
+    fill(&line[0..end], out)
+}
+
+// The line of an answer: the command's bytes, or the end with the count of commands.
+pub fn answer_line(answer: Answer, bytes: [u8; 10], count: u64, out: &mut [u8]) -> Made
+    ensures { λ r. ⌜ Writes (lineOf (said answer) bytes count) r (now (out .entry)) (now (out .exit)) ⌝ }
+{
+    match answer {
+        Answer::Issue(_) => command_line(&bytes, out),
+        Answer::Done => counted_line(b"done ", count, out),
+        Answer::Stop(refusal) => stop_line(refusal, count, out),
+        Answer::DriveFailed(sense) => failed_line(sense, count, out),
+    }
+}
