@@ -1,6 +1,7 @@
 -- Lines as they are to be printed, computed from the definitions: one list, one statement.
 use mathlib.Core.Path.{_≡_, refl}
-use mathlib.Core.List.{[], _∷_}
+use mathlib.Core.List.{List, [], _∷_}
+use Prim.Native.Nat.{ℕ}
 use Rattle.mmc.specs.Commands.{getConfiguration}
 use Rattle.recorder.specs.Answers.{because, drive-failed, issue, done, stop}
 use Rattle.recorder.specs.declared.job.Command.the-variants.{GetConfiguration}

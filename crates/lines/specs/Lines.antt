@@ -4,7 +4,7 @@ use Prim.Native.Nat.{ℕ, _≤_}
 use lib.ListN.{length}
 use Rattle.mmc.specs.Refusals.{pass, Fills}
 use Rattle.mmc.specs.declared.refusals.Made.{Made}
-use Rattle.recorder.specs.Answers.{because, drive-failed, Ruling, issue, done, stop}
+use Rattle.recorder.specs.Answers.{Why, because, drive-failed, Ruling, issue, done, stop}
 use Rattle.recorder.specs.declared.replies.Sense.{Sense}
 use Rattle.lines.specs.Text.{codes, parted, decimal}
 

@@ -1,6 +1,12 @@
-// A run over the blocks that were read: the recorder is called, and its answers become lines.
+// A run of the print program over the blocks that were read: the recorder is called, and its answers become lines.
 ghost use mathlib.Core.Path.{_≡_};
-ghost use Prim.Native.Nat.{min};
+ghost use mathlib.Core.List.{[]};
+ghost use Prim.Native.Nat.{_+_, _-_, _≤_, min};
+ghost use lib.ListN.{length, take, drop};
+ghost use Rattle.mmc.specs.ReplyBlock.{readReply};
+ghost use Rattle.recorder.specs.Answers.{said};
+ghost use Rattle.recorder.specs.Job.{nextIn, takeOf};
+ghost use Rattle.print.specs.Run.{writtenBy, waits, repliedOf, answeredOf, repliedTo, waitingFor, fed, blocksOf, begunWith, stageIn, roomFor, Reaches};
 use mmc::refusals::Made;
 use mmc::reply_block::ReplyRead;
 use mmc::reply_block::read_reply;
@@ -13,18 +19,24 @@ use recorder::job::take;
 // The recorder's state, whether it waits for a reply, and how many bytes of the text are used.
 pub struct Run {
     pub state: Recorder,
-    pub open: bool,
+    pub waiting: bool,
     pub used: usize,
 }
 
-fn written(made: Made) -> usize {
+// How many bytes a maker wrote.
+fn written(made: Made) -> usize
+    ensures { λ r. ⌜ r ≡ writtenBy made ⌝ }
+{
     match made {
         Made::Bytes(n) => n,
         Made::Refused(_) => 0,
     }
 }
 
-fn is_command(answer: Answer) -> bool {
+// Whether an answer is a command, so that a reply is awaited.
+fn is_command(answer: Answer) -> bool
+    ensures { λ r. ⌜ r ≡ waits (said answer) ⌝ }
+{
     match answer {
         Answer::Issue(_) => true,
         Answer::Done => false,
@@ -34,7 +46,9 @@ fn is_command(answer: Answer) -> bool {
 }
 
 // What a reply block leads to: the recorder's step, or a stop with 1, 2 or 3 that changes nothing.
-fn replied(state: Recorder, block: &[u8]) -> Step {
+fn replied(state: Recorder, block: &[u8]) -> Step
+    ensures { λ r. ⌜ nextIn r ≡ repliedOf state (readReply (now (block .entry))) ⌝ }
+{
     let read = read_reply(block);
     match read {
         ReplyRead::Good(n) => state.give(true, reply_data(block, n)),
@@ -48,76 +62,78 @@ fn replied(state: Recorder, block: &[u8]) -> Step {
     }
 }
 
-// Writes the line of an answer behind the text, and answers where it ends.
-fn line_behind(answer: Answer, bytes: [u8; 10], count: u64, used: usize, text: &mut [u8]) -> usize {
-    if text.len() < used {
-        return used;
-    }
-    let made = lines::answer_line(answer, bytes, count, &mut text[used..]);
-    let n = written(made);
-    if text.len() - used < n {
-        return used;
-    }
-    used + n
-}
-
-// A step becomes a line, and the run goes on from it.
-fn answered(step: Step, used: usize, text: &mut [u8]) -> Run {
+// Writes the line of an answer behind the text.
+fn answered(step: Step, used: usize, text: &mut [u8]) -> Run
+    requires { ⌜ used + 64 ≤ length (now text) ⌝ }
+    ensures { λ r. ⌜ Reaches (answeredOf (nextIn step) (take used (now (text .entry)))) (used + 64) r (now (text .exit)) ⌝ }
+{
     let answer = step.answer;
     let bytes = step.bytes;
+    let made = lines::answer_line(answer, bytes, step.count, &mut text[used..]);
     let state = step.state;
-    let end = line_behind(answer, bytes, step.count, used, text);
     Run {
         state: state,
-        open: is_command(answer),
-        used: end,
+        waiting: is_command(answer),
+        used: used + written(made),
     }
 }
 
-// The length of the next block: 512, or less at the end of the input.
-fn block_length(left: usize) -> usize
-    ensures { λ r. ⌜ r ≡ min left 512 ⌝ }
+// One reply block.
+fn next_block(run: Run, block: &[u8], text: &mut [u8]) -> Run
+    requires { ⌜ run .used + 64 ≤ length (now text) ⌝ }
+    ensures { λ r. ⌜ Reaches (repliedTo (stageIn run (now (text .entry))) (now (block .entry))) (run .used + 64) r (now (text .exit)) ⌝ }
 {
-    if left < 512 { left } else { 512 }
-}
-
-// The run with its text written out.
-pub fn flushed(run: Run) -> Run {
     let state = run.state;
-    Run {
-        state: state,
-        open: run.open,
-        used: 0,
-    }
+    let step = replied(state, block);
+    answered(step, run.used, text)
 }
 
-// Gives the reply blocks at hand, the last of which may be short, until the job ends.
-pub fn feed(first: Run, blocks: &[u8], text: &mut [u8]) -> Run {
-    let mut run = first;
+// Where the block that starts at the index at ends: the input's last block can be short.
+fn block_end(length: usize, at: usize) -> usize
+    requires { ⌜ at ≤ length ⌝ }
+    ensures { λ r. ⌜ r ≡ at + min 512 (length - at) ⌝ }
+{
+    if length - at < 512 { length } else { at + 512 }
+}
+
+// The reply blocks of a read, until the run ends.
+pub(crate) fn feed(run: Run, input: &[u8], text: &mut [u8]) -> Run
+    requires { ⌜ run .used + roomFor (length (now input)) ≤ length (now text) ⌝ }
+    ensures { λ r. ⌜ Reaches (fed (stageIn run (now (text .entry))) (blocksOf (now (input .entry)))) (length (now (text .entry))) r (now (text .exit)) ⌝ }
+{
+    let mut current = run;
     let mut at: usize = 0;
-    while run.open && at < blocks.len() {
-        let end = at + block_length(blocks.len() - at);
-        let state = run.state;
-        run = answered(replied(state, &blocks[at..end]), run.used, text);
+    while at < input.len() {
+        if !current.waiting {
+            return current;
+        }
+        let end = block_end(input.len(), at);
+        current = next_block(current, &input[at..end], text);
         at = end;
     }
-    run
+    current
 }
 
-// Takes the order from the first block, and gives the reply blocks behind it.
-pub fn begin(blocks: &[u8], text: &mut [u8]) -> Run {
-    let n = block_length(blocks.len());
-    let run = answered(take(&blocks[0..n]), 0, text);
-    feed(run, &blocks[n..], text)
+// The order block and the reply blocks of the first read.
+pub(crate) fn begin(input: &[u8], text: &mut [u8]) -> Run
+    requires { ⌜ 64 + roomFor (length (now input) - 512) ≤ length (now text) ⌝ }
+    ensures { λ r. ⌜ Reaches (begunWith (now (input .entry))) (length (now (text .entry))) r (now (text .exit)) ⌝ }
+{
+    let end = block_end(input.len(), 0);
+    let step = take(&input[0..end]);
+    let run = answered(step, 0, text);
+    feed(run, &input[end..], text)
 }
 
 // The last line where replies run out.
-pub fn wait(run: Run, text: &mut [u8]) -> Run {
-    let state = run.state;
+pub(crate) fn wait(state: Recorder, text: &mut [u8]) -> Run
+    requires { ⌜ 64 ≤ length (now text) ⌝ }
+    ensures { λ r. ⌜ Reaches (waitingFor state) (length (now (text .entry))) r (now (text .exit)) ⌝ }
+{
     let made = lines::waiting_line(state.count, text);
     Run {
         state: state,
-        open: false,
+        waiting: false,
         used: written(made),
     }
 }

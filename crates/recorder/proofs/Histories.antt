@@ -23,7 +23,6 @@ use Rattle.recorder.specs.Exchanges.{Exchange, recorded, occupied}
 use Rattle.recorder.specs.Rules.{answerTo, none, found, refusal, ruled, exchanged, play, orderedIn, AllClosed}
 use Rattle.recorder.specs.Job.{Next, nextIn, pendingOf, mostCommands, counted, stateOf, nextOf, unchanged, validOf, opening, takenAs, takeOf, giveOf}
 use Rattle.recorder.specs.History.{History, taken, given, givenAll, history, commandIn, commands, going, as-done, as-stop, ended, NeverStaleBy, NeverStale, Whole, AllMarkedGood, AllGood, Extends, Takes, Gives}
-use Rattle.recorder.proofs.Bench.{bench-sheets}
 use Rattle.recorder.proofs.Scripts.{script-length}
 use Rattle.recorder.proofs.Tests.{clash, false-true}
 use Rattle.recorder.proofs.Rulings.{ruled-at, stands, rule-order, rule-apart, rule-done, rule-stop}
@@ -290,7 +289,6 @@ takes b s e =
       whole = extends b [] (nextIn s) e;
       script-length = λ o q. script-length o (read-sized b o q .all);
       can-pass = λ o q ok. can-pass o ok;
-      sheets = bench-sheets;
     }
 
 given-snoc : (h : History) (rs : List Reply) (y : Reply) → givenAll h (rs ++ (y ∷ [])) ≡ given (givenAll h rs) y

@@ -25,7 +25,6 @@ use Rattle.recorder.specs.Answers.{Why, because, Ruling, issue, done, st
 use Rattle.recorder.specs.Script.{Block, script, expected}
 use Rattle.recorder.specs.Exchanges.{Exchange, gather, recorded, occupied, starts, frees, latest}
 use Rattle.recorder.specs.Rules.{none, found, mixedOrKept, refusal, ruled, exchanged, play, orderedIn, AllClosed}
-use Rattle.recorder.specs.Bench.{BenchSheets}
 use Rattle.recorder.specs.Job.{Next, nextIn, mostCommands, unchanged, validOf, takeOf, giveOf}
 
 -- what the calls gave back since the order was taken: the last step, all answers, and the commands with the replies to them
@@ -164,14 +163,12 @@ pub record Extends (b : List ℕ) (rs : List Reply) (s : Next) : Type 0 where
   pub whole : Whole b rs (history b rs)
   pub all-good : (o : Order) → readOrder b ≡ pass o → AllMarkedGood rs → refusal (pass o) (play (pass o) [] rs) ≡ none → AllGood b o rs
 
--- `take`: the plain job's step, demand 3 of the empty list of replies, the exact count, that replies exist for part 7, and that the
--- definitions behind all this give document 01's "Sheets from the bench"
+-- `take`: the plain job's step, demand 3 of the empty list of replies, the exact count, and that replies exist for part 7
 pub record Takes (b : List ℕ) (s : Step) : Type 0 where
   pub step : nextIn s ≡ takeOf b
   pub whole : Extends b [] (nextIn s)
   pub script-length : (o : Order) → readOrder b ≡ pass o → length (script o) ≡ expected o
   pub can-pass : (o : Order) → readOrder b ≡ pass o → Recordable o → (rs : List Reply) × Passing o rs
-  pub sheets : BenchSheets
 
 -- `give`: the plain job's step, and demand 3 of every history that this reply goes on with
 pub record Gives (r : Recorder) (good : Bool) (d : List ℕ) (s : Step) : Type 0 where
