@@ -1,14 +1,13 @@
 -- Lines as they are to be printed, computed from the definitions: one list, one statement.
 use mathlib.Core.Path.{_≡_, refl}
-use mathlib.Core.List.{List, [], _∷_}
-use Prim.Native.Nat.{ℕ}
+use mathlib.Core.List.{[], _∷_}
 use Rattle.mmc.specs.Commands.{getConfiguration}
 use Rattle.recorder.specs.Answers.{because, drive-failed, issue, done, stop}
 use Rattle.recorder.specs.declared.job.Command.the-variants.{GetConfiguration}
 use Rattle.lines.specs.Text.{codes, parted, leading, decimal}
 use Rattle.lines.specs.Lines.{commandLine, countedLine, doneLine, waitingLine, stopText, stopLine, failedLine, lineOf}
 
--- document 01's first line, its stop, a failed reply, the ends of short and endless jobs, an order alone that was taken for none
+-- document 01's first command and its stop, a drive that failed, a job that is done, no order, and the largest count
 pub lines : (
     lineOf (issue GetConfiguration) getConfiguration 1
     ∷ lineOf (stop (because 6)) [] 3

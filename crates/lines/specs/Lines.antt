@@ -4,7 +4,7 @@ use Prim.Native.Nat.{ℕ, _≤_}
 use lib.ListN.{length}
 use Rattle.mmc.specs.Refusals.{pass, Fills}
 use Rattle.mmc.specs.declared.refusals.Made.{Made}
-use Rattle.recorder.specs.Answers.{Why, because, drive-failed, Ruling, issue, done, stop}
+use Rattle.recorder.specs.Answers.{because, drive-failed, Ruling, issue, done, stop}
 use Rattle.recorder.specs.declared.replies.Sense.{Sense}
 use Rattle.lines.specs.Text.{codes, parted, decimal}
 
@@ -40,11 +40,11 @@ lineOf done bytes n = doneLine n
 lineOf (stop (because r)) bytes n = stopLine r n
 lineOf (stop (drive-failed s)) bytes n = failedLine s n
 
--- "the lent buffer": this many bytes are enough for any line
+-- a lent buffer of so many bytes is long enough for any line
 abbrev pub longest : ℕ
 longest = 64
 
--- what the makers promise: of a line, the answer, and the lent buffer before and after; 11 for a buffer that is too short, and that 64 bytes never are
+-- what the makers promise: of a line, the answer, and the lent buffer before and after; 11 where it is too short, and how long a line can be
 pub record Writes (line : List ℕ) (r : Made) (before after : List ℕ) : Type 0 where
   pub filled : Fills (pass line) r before after
   pub short : length line ≤ longest

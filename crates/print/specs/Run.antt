@@ -14,6 +14,7 @@ use Rattle.recorder.specs.Job.{Next, unchanged, takeOf, giveOf}
 use Rattle.recorder.specs.declared.job.Recorder.{Recorder}
 use Rattle.lines.specs.Lines.{longest, lineOf, waitingLine}
 use Rattle.print.specs.declared.run.Run.{Run}
+use Rattle.print.specs.declared.run.Line.{Line}
 
 -- ---- one block
 
@@ -63,6 +64,13 @@ unfoldable pub fed : Stage → List (List ℕ) → Stage
 fed g [] = g
 fed g (b ∷ bs) = if (g .waiting) (fed (repliedTo g b) bs) g
 
+-- where a run stands once its text is written out, and with a text written before
+abbrev pub cleared : Stage → Stage
+cleared g = record { state = g .state; waiting = g .waiting; text = [] }
+
+abbrev pub behind : List ℕ → Stage → Stage
+behind text g = record { state = g .state; waiting = g .waiting; text = text ++ g .text }
+
 -- an order block and the reply blocks behind it
 unfoldable pub begunWith : List ℕ → Stage
 begunWith s = fed (answeredOf (takeOf (take 512 s)) []) (blocksOf (drop 512 s))
@@ -81,11 +89,26 @@ printed s = begunWith s .text ++ if (begunWith s .waiting) (waitingFor (begunWit
 abbrev pub stageIn : Run → List ℕ → Stage
 stageIn r buffer = record { state = r .state; waiting = r .waiting; text = take (r .used) buffer }
 
+-- what the maker of a line promises: whether a reply is awaited then, the line behind the text, and how much of the buffer is used at most
+pub record AddsLine (a : Ruling) (bytes : List ℕ) (count used : ℕ) (before : List ℕ) (r : Line) (after : List ℕ) : Type 0 where
+  pub waiting : r .waiting ≡ waits a
+  pub text : take (r .used) after ≡ take used before ++ lineOf a bytes count
+  pub room : r .used ≤ used + longest
+
 -- 64 bytes for the line of each block of an input of n bytes
 abbrev pub roomFor : ℕ → ℕ
 roomFor n = longest * ((n + 511) / 512)
 
--- what the makers promise: where the run stands then, and how much of the buffer is used at most
+-- what is promised of a run: where it stands then, and how much of the buffer is used at most
 pub record Reaches (g : Stage) (most : ℕ) (r : Run) (after : List ℕ) : Type 0 where
   pub stage : stageIn r after ≡ g
   pub room : r .used ≤ most
+
+-- the same of a read of bytes, and that after a read of whole blocks the next read goes on as if both had been one
+pub record Feeds (g : Stage) (s : List ℕ) (most : ℕ) (r : Run) (after : List ℕ) : Type 0 where
+  pub reaches : Reaches (fed g (blocksOf s)) most r after
+  pub goes-on : (t : List ℕ) (m : ℕ) → length s ≡ 512 * m → fed g (blocksOf (s ++ t)) ≡ behind (take (r .used) after) (fed (cleared (stageIn r after)) (blocksOf t))
+
+pub record Begins (s : List ℕ) (most : ℕ) (r : Run) (after : List ℕ) : Type 0 where
+  pub reaches : Reaches (begunWith s) most r after
+  pub goes-on : (t : List ℕ) (m : ℕ) → length s ≡ 512 * suc m → begunWith (s ++ t) ≡ behind (take (r .used) after) (fed (cleared (stageIn r after)) (blocksOf t))

@@ -1,12 +1,11 @@
 // A run of the print program over the blocks that were read: the recorder is called, and its answers become lines.
 ghost use mathlib.Core.Path.{_≡_};
-ghost use mathlib.Core.List.{[]};
 ghost use Prim.Native.Nat.{_+_, _-_, _≤_, min};
-ghost use lib.ListN.{length, take, drop};
+ghost use lib.ListN.{length};
 ghost use Rattle.mmc.specs.ReplyBlock.{readReply};
 ghost use Rattle.recorder.specs.Answers.{said};
-ghost use Rattle.recorder.specs.Job.{nextIn, takeOf};
-ghost use Rattle.print.specs.Run.{writtenBy, waits, repliedOf, answeredOf, repliedTo, waitingFor, fed, blocksOf, begunWith, stageIn, roomFor, Reaches};
+ghost use Rattle.recorder.specs.Job.{nextIn};
+ghost use Rattle.print.specs.Run.{writtenBy, waits, repliedOf, repliedTo, waitingFor, stageIn, AddsLine, roomFor, Reaches, Feeds, Begins};
 use mmc::refusals::Made;
 use mmc::reply_block::ReplyRead;
 use mmc::reply_block::read_reply;
@@ -21,6 +20,12 @@ pub struct Run {
     pub state: Recorder,
     pub waiting: bool,
     pub used: usize,
+}
+
+// Whether a reply is awaited after a line, and how many bytes of the text are used.
+struct Line {
+    waiting: bool,
+    used: usize,
 }
 
 // How many bytes a maker wrote.
@@ -63,16 +68,12 @@ fn replied(state: Recorder, block: &[u8]) -> Step
 }
 
 // Writes the line of an answer behind the text.
-fn answered(step: Step, used: usize, text: &mut [u8]) -> Run
+fn add_line(answer: Answer, bytes: [u8; 10], count: u64, used: usize, text: &mut [u8]) -> Line
     requires { ⌜ used + 64 ≤ length (now text) ⌝ }
-    ensures { λ r. ⌜ Reaches (answeredOf (nextIn step) (take used (now (text .entry)))) (used + 64) r (now (text .exit)) ⌝ }
+    ensures { λ r. ⌜ AddsLine (said answer) bytes count used (now (text .entry)) r (now (text .exit)) ⌝ }
 {
-    let answer = step.answer;
-    let bytes = step.bytes;
-    let made = lines::answer_line(answer, bytes, step.count, &mut text[used..]);
-    let state = step.state;
-    Run {
-        state: state,
+    let made = lines::answer_line(answer, bytes, count, &mut text[used..]);
+    Line {
         waiting: is_command(answer),
         used: used + written(made),
     }
@@ -85,7 +86,15 @@ fn next_block(run: Run, block: &[u8], text: &mut [u8]) -> Run
 {
     let state = run.state;
     let step = replied(state, block);
-    answered(step, run.used, text)
+    let answer = step.answer;
+    let bytes = step.bytes;
+    let line = add_line(answer, bytes, step.count, run.used, text);
+    let next = step.state;
+    Run {
+        state: next,
+        waiting: line.waiting,
+        used: line.used,
+    }
 }
 
 // Where the block that starts at the index at ends: the input's last block can be short.
@@ -99,7 +108,7 @@ fn block_end(length: usize, at: usize) -> usize
 // The reply blocks of a read, until the run ends.
 pub(crate) fn feed(run: Run, input: &[u8], text: &mut [u8]) -> Run
     requires { ⌜ run .used + roomFor (length (now input)) ≤ length (now text) ⌝ }
-    ensures { λ r. ⌜ Reaches (fed (stageIn run (now (text .entry))) (blocksOf (now (input .entry)))) (length (now (text .entry))) r (now (text .exit)) ⌝ }
+    ensures { λ r. ⌜ Feeds (stageIn run (now (text .entry))) (now (input .entry)) (length (now (text .entry))) r (now (text .exit)) ⌝ }
 {
     let mut current = run;
     let mut at: usize = 0;
@@ -117,11 +126,19 @@ pub(crate) fn feed(run: Run, input: &[u8], text: &mut [u8]) -> Run
 // The order block and the reply blocks of the first read.
 pub(crate) fn begin(input: &[u8], text: &mut [u8]) -> Run
     requires { ⌜ 64 + roomFor (length (now input) - 512) ≤ length (now text) ⌝ }
-    ensures { λ r. ⌜ Reaches (begunWith (now (input .entry))) (length (now (text .entry))) r (now (text .exit)) ⌝ }
+    ensures { λ r. ⌜ Begins (now (input .entry)) (length (now (text .entry))) r (now (text .exit)) ⌝ }
 {
     let end = block_end(input.len(), 0);
     let step = take(&input[0..end]);
-    let run = answered(step, 0, text);
+    let answer = step.answer;
+    let bytes = step.bytes;
+    let line = add_line(answer, bytes, step.count, 0, text);
+    let state = step.state;
+    let run = Run {
+        state: state,
+        waiting: line.waiting,
+        used: line.used,
+    };
     feed(run, &input[end..], text)
 }
 

@@ -1,15 +1,15 @@
 -- Lines behind a text, the data of a reply block, and the blocks of an input.
-use mathlib.Core.Path.{_≡_, refl, sym, ap, subst, _∙_}
+use mathlib.Core.Path.{_≡_, refl, sym, ap, _∙_}
 use mathlib.Core.Bool.{Bool, true, false}
-use mathlib.Core.List.{List, [], _∷_, _++_, append-assoc}
-use Prim.Native.Nat.{ℕ, zero, suc, _+_, _-_, _≤_, _<_, min}
+use mathlib.Core.List.{List, [], _∷_, _++_, append-assoc, append-nil}
+use Prim.Native.Nat.{ℕ, zero, suc, _+_, _-_, _*_, _≤_, _<_, min}
 use native.Mathlib.Nat.{min-eq-left, min-eq-right}
 use native.Mathlib.Decide.{decLe}
 use native.Mathlib.Omega.{arith}
 use borrow.Author.Tests.{le-leb, leb-true}
 use lib.Dec.{leb}
 use lib.ListN.{length, take, drop, length-append, length-drop, length-replicate, drop-of-length-le}
-use lib.Seq.{length-take-le, take-all, take-at, drop-drop}
+use lib.Seq.{length-take-le, take-all, take-at, drop-drop, take-append-le, drop-append-le}
 use Rattle.mmc.specs.Bytes.{if, partOf}
 use Rattle.mmc.specs.Refusals.{pass, refuse, madeOf, answerOf, bufferOf}
 use Rattle.mmc.specs.Block.{sealed}
@@ -19,7 +19,7 @@ use Rattle.mmc.specs.declared.refusals.Made.the-variants as M
 use Rattle.recorder.specs.Job.{Next, takeOf}
 use Rattle.recorder.specs.declared.job.Recorder.{Recorder}
 use Rattle.lines.specs.Lines.{Writes}
-use Rattle.print.specs.Run.{writtenBy, Stage, answeredOf, repliedTo, cut, blocksOf, fed, begunWith, roomFor, Reaches}
+use Rattle.print.specs.Run.{writtenBy, Stage, answeredOf, repliedTo, cut, blocksOf, fed, cleared, behind, begunWith, stageIn, roomFor, Reaches, Feeds, Begins}
 use Rattle.print.specs.declared.run.Run.{Run}
 
 -- ---- lines
@@ -36,14 +36,14 @@ wrote {line} {before} {after} r w h =
     (counted (length line) r (w .filled .answer ∙ simp l), w .filled .buffer ∙ simp l)
 
 -- a line goes into the part of a buffer behind the text
-pub behind : (text : List ℕ) (u : ℕ) {part line : List ℕ} (r : Made) → u + 64 ≤ length text → Writes line r (take (length text - u) (drop u text)) part → (writtenBy r ≡ length line) × (part ≡ line ++ drop (length line) (take (length text - u) (drop u text)))
-behind text u r h w =
+pub goes-in : (text : List ℕ) (u : ℕ) {part line : List ℕ} (r : Made) → u + 64 ≤ length text → Writes line r (take (length text - u) (drop u text)) part → (writtenBy r ≡ length line) × (part ≡ line ++ drop (length line) (take (length text - u) (drop u text)))
+goes-in text u r h w =
     let k = length-take-le (length text - u) (drop u text) (omega (arith, length-drop u text)) in
     wrote r w (omega arith)
 
 pub added : (text : List ℕ) (u : ℕ) {part line : List ℕ} (r : Made) (more : List ℕ) → u + 64 ≤ length text → Writes line r (take (length text - u) (drop u text)) part → take (u + writtenBy r) (take u text ++ (part ++ more)) ≡ take u text ++ line
 added text u {part} {line} r more h w =
-    let e = behind text u r h w in
+    let e = goes-in text u r h w in
     let rest = drop (length line) (take (length text - u) (drop u text)) in
     let n : length (take u text ++ line) ≡ u + writtenBy r = omega (arith, length-append (take u text) line, length-take-le u text (omega arith), e .0) in
     let q : take u text ++ (part ++ more) ≡ (take u text ++ line) ++ (rest ++ more) = rw (e .1) (simp append-assoc) in
@@ -52,10 +52,6 @@ added text u {part} {line} r more h w =
 -- two stages of one state
 pub stage-of : (s : Recorder) {a b : Bool} {x y : List ℕ} → a ≡ b → x ≡ y → _≡_ {A = Stage} (record { state = s; waiting = a; text = x }) (record { state = s; waiting = b; text = y })
 stage-of s e f = rw (e, f)
-
--- what is reached by an answer is reached by all that are equal
-pub reaches-of : (text : List ℕ) {n m : Next} {k : ℕ} {r : Run} {after : List ℕ} → n ≡ m → Reaches (answeredOf n text) k r after → Reaches (answeredOf m text) k r after
-reaches-of text {k = k} {r = r} {after = after} e h = subst (λ (x : Next). Reaches (answeredOf x text) k r after) e h
 
 -- ---- the data of a reply block
 
@@ -173,3 +169,66 @@ begun s e g p q r =
     let t : take (length s - e) (drop e s) ≡ drop 512 s = take-all (length s - e) (drop e s) (omega (arith, length-drop e s)) ∙ k .1 in
     ap (λ (x : Stage). fed x (blocksOf (take (length s - e) (drop e s)))) (r ∙ ap (λ (x : Next). answeredOf x []) (q ∙ ap takeOf (k .0)))
     ∙ ap (λ (b : List ℕ). fed (answeredOf (takeOf (take 512 s)) []) (blocksOf b)) t
+
+-- ---- one read after another
+
+blocks-append : (m : ℕ) (s t : List ℕ) → length s ≡ 512 * m → blocksOf (s ++ t) ≡ blocksOf s ++ blocksOf t
+unfolding blocksOf cut
+blocks-append zero [] t e = refl
+blocks-append zero (x ∷ s) t e = absurd (omega arith)
+blocks-append (suc m) s t e =
+    let h : 512 ≤ length s = omega arith in
+    let n : length (drop 512 s) ≡ 512 * m = omega (arith, length-drop 512 s) in
+    let p : 0 < length (s ++ t) = omega (arith, length-append s t) in
+    blocks-next (s ++ t) p
+    ∙ rw (take-append-le 512 s t h, drop-append-le 512 s t h) (ap (λ (bs : List (List ℕ)). take 512 s ∷ bs) (blocks-append m (drop 512 s) t n))
+    ∙ ap (λ (bs : List (List ℕ)). bs ++ blocksOf t) (sym (blocks-next s (omega arith)))
+
+-- a test is true or false
+known {ℓ} : {X : Type ℓ} (b : Bool) → (b ≡ true → X) → (b ≡ false → X) → X
+known true f g = f refl
+known false f g = g refl
+
+fed-append : (g : Stage) (a b : List (List ℕ)) → fed g (a ++ b) ≡ fed (fed g a) b
+unfolding fed
+fed-append g [] b = refl
+fed-append g (x ∷ a) b =
+    known (g .waiting)
+    (λ w. fed-next g x (a ++ b) w ∙ fed-append (repliedTo g x) a b ∙ ap (λ (h : Stage). fed h b) (sym (fed-next g x a w)))
+    (λ w. fed-ended g (x ∷ (a ++ b)) w ∙ sym (fed-ended g b w) ∙ ap (λ (h : Stage). fed h b) (sym (fed-ended g (x ∷ a) w)))
+
+fed-behind : (text : List ℕ) (g : Stage) (bs : List (List ℕ)) → fed (behind text g) bs ≡ behind text (fed g bs)
+unfolding fed
+fed-behind text g [] = refl
+fed-behind text g (b ∷ bs) =
+    known (g .waiting)
+    (λ w.
+    fed-next (behind text g) b bs w
+    ∙ ap (λ (h : Stage). fed h bs) (stage-of (repliedTo g b .state) refl (append-assoc text (g .text) _))
+    ∙ fed-behind text (repliedTo g b) bs
+    ∙ ap (behind text) (sym (fed-next g b bs w)))
+    (λ w. fed-ended (behind text g) (b ∷ bs) w ∙ ap (behind text) (sym (fed-ended g (b ∷ bs) w)))
+
+-- a run goes on behind its text as one whose text was written out
+fed-cleared : (g : Stage) (bs : List (List ℕ)) → fed g bs ≡ behind (g .text) (fed (cleared g) bs)
+fed-cleared g bs = ap (λ (h : Stage). fed h bs) (stage-of (g .state) refl (sym (append-nil (g .text)))) ∙ fed-behind (g .text) (cleared g) bs
+
+fed-on : (g h : Stage) (s t : List ℕ) (m : ℕ) → h ≡ fed g (blocksOf s) → length s ≡ 512 * m → fed g (blocksOf (s ++ t)) ≡ behind (h .text) (fed (cleared h) (blocksOf t))
+fed-on g h s t m q e =
+    ap (fed g) (blocks-append m s t e)
+    ∙ fed-append g (blocksOf s) (blocksOf t)
+    ∙ ap (λ (x : Stage). fed x (blocksOf t)) (sym q)
+    ∙ fed-cleared h (blocksOf t)
+
+begun-on : (h : Stage) (s t : List ℕ) (m : ℕ) → h ≡ begunWith s → length s ≡ 512 * suc m → begunWith (s ++ t) ≡ behind (h .text) (fed (cleared h) (blocksOf t))
+unfolding begunWith
+begun-on h s t m q e =
+    let k : 512 ≤ length s = omega arith in
+    let n : length (drop 512 s) ≡ 512 * m = omega (arith, length-drop 512 s) in
+    rw (take-append-le 512 s t k, drop-append-le 512 s t k) (fed-on (answeredOf (takeOf (take 512 s)) []) h (drop 512 s) t m q n)
+
+pub feeds : (g : Stage) (s : List ℕ) {most : ℕ} {r : Run} {after : List ℕ} → Reaches (fed g (blocksOf s)) most r after → Feeds g s most r after
+feeds g s {r = r} {after = after} p = record { reaches = p; goes-on = λ t m e. fed-on g (stageIn r after) s t m (p .stage) e }
+
+pub begins : (s : List ℕ) {most : ℕ} {r : Run} {after : List ℕ} → Reaches (begunWith s) most r after → Begins s most r after
+begins s {r = r} {after = after} p = record { reaches = p; goes-on = λ t m e. begun-on (stageIn r after) s t m (p .stage) e }

@@ -1,6 +1,8 @@
 use borrow.Author.Needs.{needs}
-use mathlib.Core.Path.{_∙_}
-use Rattle.print.proofs.run.Laws.{begun}
+use mathlib.Core.Path.{_≡_, _∙_}
+use native.Mathlib.Omega.{arith}
+use lib.ListN.{length}
+use Rattle.print.proofs.run.Laws.{stage-of, begun, begins}
 use Rattle.print.proofs.run.begin.Statement.{statement}
 use Rattle.print.proofs.run.begin.Tie as tie
 
@@ -19,8 +21,8 @@ part-take-end c = search needs
 take-requires : tie.Need-take-requires
 take-requires c κs = search needs
 
-answered-requires : tie.Need-answered-requires
-answered-requires c κs = search needs
+add-line-requires : tie.Need-add-line-requires
+add-line-requires c κs = search needs
 
 sub-feed : tie.Need-sub-feed
 sub-feed c = search needs
@@ -40,14 +42,15 @@ same-length c = search needs
 returns : tie.Need-returns
 returns c =
     let f = c .before .before .feed in
-    let a = c .before .before .before .before .before .before .before in
-    let t = a .before .before in
+    let l = c .before .before .before .before .before .before .before .before in
+    let t = l .before .before .before in
     let b = t .before .before in
-    let s = b .before .before .before .args .input .now in
-    record {
-      stage = f .ensures .stage ∙ begun s (b .block-end .result) _ (b .block-end .ensures) (t .take .ensures .step) (a .answered .ensures .stage);
-      room = search needs;
-    }
+    let a = b .before .before .before .args in
+    let k : length (l .add-line .last .1 .1 .1 .1 .0) ≡ length (a .text .now) = l .add-line .kept .1 .1 .1 .1 .0 in
+    begins (a .input .now) (record {
+      stage = f .ensures .reaches .stage ∙ begun (a .input .now) (b .block-end .result) _ (b .block-end .ensures) (t .take .ensures .step) (stage-of (t .take .result .state) (l .add-line .ensures .waiting) (l .add-line .ensures .text));
+      room = omega (arith, f .ensures .reaches .room);
+    })
 
 pub begin-spec : {M : Type 1} → statement M
 begin-spec =
@@ -58,7 +61,7 @@ begin-spec =
     part-take-start
     part-take-end
     take-requires
-    answered-requires
+    add-line-requires
     sub-feed
     part-feed-start
     part-feed-end
