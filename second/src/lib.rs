@@ -1,15 +1,18 @@
 //! An independent second program for document 01 ("What we will build and its
-//! rules"), written from the papers alone.
+//! rules") and document 02's CD-TEXT (Ask 4), written from the papers alone.
 //!
 //! The rules live in `units`, `refusal`, `blocks`, `times`, `page`, `sheet`,
-//! `commands`, `replies`, `job` and `print`. The rest serves comparison with
-//! another program: `layouts` answers requests over the byte layouts, `packed`
-//! gives them in a binary form, `text` gives a job in plain text, and `drive`,
-//! `random`, `corners` and `requests` make test material.
+//! `commands`, `replies`, `job`, `print` and `cdtext`. The rest serves
+//! comparison with another program: `layouts` answers requests over the byte
+//! layouts, `packed` gives them in a binary form, `cdtext_requests` answers
+//! those over CD-TEXT, `text` gives a job and `stops` stop names in plain text,
+//! and `drive`, `random`, `corners`, `requests`, `cdtext_forge`,
+//! `cdtext_random` and `cdtext_corners` make test material.
 
 #![forbid(unsafe_code)]
 
 pub mod blocks;
+pub mod cdtext;
 pub mod commands;
 pub mod hex;
 pub mod job;
@@ -21,11 +24,16 @@ pub mod sheet;
 pub mod times;
 pub mod units;
 
+pub mod cdtext_requests;
 pub mod layouts;
 pub mod packed;
+pub mod stops;
 pub mod text;
 pub mod wellformed;
 
+pub mod cdtext_corners;
+pub mod cdtext_forge;
+pub mod cdtext_random;
 #[rustfmt::skip] // a table with one job a line
 pub mod corners;
 pub mod drive;

@@ -1,4 +1,5 @@
-//! The numbers a refusal bears (document 01, "Numbers a refusal bears").
+//! The numbers a refusal bears (document 01, "Numbers a refusal bears", and
+//! document 02's requests).
 
 /// Key, ASC and ASCQ of a failed reply.
 #[derive(Clone, Copy, PartialEq, Eq, Debug)]
@@ -40,10 +41,16 @@ pub enum Refusal {
     NoSheet,
     /// 15: a number given to a conversion or command maker is out of range.
     Range,
+    /// 17: a title not allowed or without its zero, or not 1 to 99 titles.
+    Title,
+    /// 18: packs that no titles give.
+    NoPacks,
+    /// 19: more than 255 packs in all.
+    PackCount,
 }
 
 impl Refusal {
-    /// The number in document 01's table.
+    /// The number in document 01's table or in document 02.
     pub fn number(self) -> u8 {
         match self {
             Refusal::BlockLength => 1,
@@ -61,6 +68,9 @@ impl Refusal {
             Refusal::Ended => 13,
             Refusal::NoSheet => 14,
             Refusal::Range => 15,
+            Refusal::Title => 17,
+            Refusal::NoPacks => 18,
+            Refusal::PackCount => 19,
         }
     }
 }

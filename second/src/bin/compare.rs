@@ -7,10 +7,14 @@
 //! - `compare --requests PROGRAM FILE` feeds the requests of a file once, in
 //!   their binary form, to a program and compares its answers with our own;
 //!   lines that are no requests are left out
+//! - `compare --cdtext PROGRAM FILE` does so with a file of CD-TEXT requests,
+//!   which stand there in their binary form
 //!
 //! A program is a file's path, or words parted by spaces: a program and its
 //! arguments.
 
+use second::cdtext_requests::{requests_in, Request, ANSWER_HEAD};
+use second::hex;
 use second::layouts::answer;
 use second::packed::{kept, pack};
 use second::text::{clip, write_text};
@@ -22,12 +26,15 @@ use std::thread;
 
 const USAGE: &str = "usage: compare PROGRAM_A PROGRAM_B DIR
        compare --lines PROGRAM_A PROGRAM_B FILE
-       compare --requests PROGRAM FILE";
+       compare --requests PROGRAM FILE
+       compare --cdtext PROGRAM FILE";
 /// Progress is told after this many jobs.
 const PROGRESS: usize = 500;
 /// A job's text is shown up to this many lines, each up to this wide.
 const MOST_LINES: usize = 60;
 const WIDTH: usize = 120;
+/// A request's payload is shown up to this wide, as three characters a byte.
+const PAYLOAD_WIDTH: usize = 3 * 512;
 
 fn main() -> ExitCode {
     let words: Vec<String> = std::env::args().skip(1).collect();
@@ -35,6 +42,7 @@ fn main() -> ExitCode {
     let result = match words.as_slice() {
         ["--lines", a, b, file] => compare_lines(a, b, Path::new(file)),
         ["--requests", program, file] => compare_requests(program, Path::new(file)),
+        ["--cdtext", program, file] => compare_cdtext(program, Path::new(file)),
         [a, b, dir] => compare_jobs(a, b, Path::new(dir)),
         _ => Err(USAGE.to_string()),
     };
@@ -196,19 +204,33 @@ fn describe(dir: &Path, file: &Path) {
 
 // ---- requests ----
 
-fn compare_lines(a: &str, b: &str, file: &Path) -> Result<bool, String> {
-    let requests = fs::read(file).map_err(|error| format!("{}: {error}", file.display()))?;
-    let requests = lines_of(&requests);
+fn read_file(file: &Path) -> Result<Vec<u8>, String> {
+    fs::read(file).map_err(|error| format!("{}: {error}", file.display()))
+}
+
+/// A file's requests, of which there must be some.
+fn some<T>(file: &Path, requests: Vec<T>) -> Result<Vec<T>, String> {
     if requests.is_empty() {
         return Err(format!("{}: no requests", file.display()));
     }
+    Ok(requests)
+}
+
+/// Shows a request and both its answers, each with its program.
+fn differs(number: usize, request: &str, answers: [(&str, &str); 2]) {
+    println!("request {number}: {request}");
+    for (program, answer) in answers {
+        println!("  {program}: {answer}");
+    }
+}
+
+fn compare_lines(a: &str, b: &str, file: &Path) -> Result<bool, String> {
+    let requests = some(file, lines_of(&read_file(file)?))?;
     let (out_a, out_b) = (output_of(a, file)?, output_of(b, file)?);
     if let Some((number, line_a, line_b)) = first_difference(&out_a, &out_b) {
-        let none = "(no request)".to_string();
-        let request = requests.get(number - 1).unwrap_or(&none);
-        println!("request {number}: {request}");
-        println!("  {a}: {line_a}\n  {b}: {line_b}");
-        println!("{} lines, 1 difference", number);
+        let request = requests.get(number - 1).map_or("(no request)", |r| r);
+        differs(number, request, [(a, &line_a), (b, &line_b)]);
+        println!("{number} lines, 1 difference");
         return Ok(false);
     }
     let answers = lines_of(&out_a).len();
@@ -222,10 +244,7 @@ fn compare_lines(a: &str, b: &str, file: &Path) -> Result<bool, String> {
 
 fn compare_requests(program: &str, file: &Path) -> Result<bool, String> {
     let text = fs::read_to_string(file).map_err(|error| format!("{}: {error}", file.display()))?;
-    let requests = kept(&text);
-    if requests.is_empty() {
-        return Err(format!("{}: no requests", file.display()));
-    }
+    let requests = some(file, kept(&text))?;
     let (mut packed, mut answers) = (Vec::new(), String::new());
     for request in &requests {
         packed.extend(pack(request)?);
@@ -235,11 +254,71 @@ fn compare_requests(program: &str, file: &Path) -> Result<bool, String> {
     let output = output_for(program, &packed)?;
     if let Some((number, theirs, ours)) = first_difference(&output, answers.as_bytes()) {
         let request = requests.get(number - 1).unwrap_or(&"(no request)");
-        println!("request {number}: {request}");
-        println!("  {program}: {theirs}\n  expected: {ours}");
+        differs(number, request, [(program, &theirs), ("expected", &ours)]);
         println!("{number} requests, 1 difference");
         return Ok(false);
     }
     println!("{} requests, 0 differences", requests.len());
     Ok(true)
+}
+
+fn compare_cdtext(program: &str, file: &Path) -> Result<bool, String> {
+    let bytes = read_file(file)?;
+    let requests = requests_in(&bytes).map_err(|error| format!("{}: {error}", file.display()))?;
+    let requests = some(file, requests)?;
+    let output = output_for(program, &bytes)?;
+    let mut rest = output.as_slice();
+    for (number, request) in (1..).zip(&requests) {
+        let ours = request.answer();
+        let (theirs, later) = rest.split_at(ours.len().min(rest.len()));
+        if theirs != ours {
+            let answers = [theirs, &ours].map(cdtext_answer);
+            let answers = [(program, &*answers[0]), ("expected", &*answers[1])];
+            differs(number, &cdtext_request(request), answers);
+            println!("  {}", first_byte(theirs, &ours));
+            println!("{number} requests, 1 difference");
+            return Ok(false);
+        }
+        rest = later;
+    }
+    if !rest.is_empty() {
+        println!("{} bytes behind the last answer", rest.len());
+        println!("{} requests, 1 difference", requests.len());
+        return Ok(false);
+    }
+    println!("{} requests, 0 differences", requests.len());
+    Ok(true)
+}
+
+fn cdtext_request(request: &Request) -> String {
+    let payload = request.payload();
+    format!(
+        "{}, {} bytes lent, payload of {}: {}",
+        request.operation().name(),
+        request.lent(),
+        payload.len(),
+        clip(&hex::or_dash(payload), PAYLOAD_WIDTH)
+    )
+}
+
+/// An answer's number, or its refusal, and its buffer.
+fn cdtext_answer(answer: &[u8]) -> String {
+    let Some((&[status, high, low], buffer)) = answer.split_first_chunk::<ANSWER_HEAD>() else {
+        return format!("(cut short) {}", hex::or_dash(answer));
+    };
+    let number = u16::from_be_bytes([high, low]);
+    let told = match status {
+        0 => format!("answered {number}"),
+        _ => format!("refused {status}, number {number}"),
+    };
+    format!("{told}, buffer {}", clip(&hex::or_dash(buffer), WIDTH))
+}
+
+/// Where two answers part; it may lie behind what is shown of them.
+fn first_byte(theirs: &[u8], ours: &[u8]) -> String {
+    let at = theirs.iter().zip(ours).position(|(a, b)| a != b);
+    match at {
+        Some(at) => format!("byte {at}: {:02X}h, expected {:02X}h", theirs[at], ours[at]),
+        None => format!("{} bytes, expected {}", theirs.len(), ours.len()),
+    }
 }

@@ -1,12 +1,15 @@
-//! Makes jobs and layout requests for comparison:
+//! Makes jobs and requests for comparison:
 //!
 //! - `jobs random SEED COUNT DIR`: random job files and their index
 //! - `jobs corners DIR`: the fixed corner jobs and their index
 //! - `jobs layouts SEED COUNT`: random requests for the layouts tool
 //! - `jobs layout-corners`: the fixed list of requests
+//! - `jobs cdtext SEED COUNT`: random CD-TEXT requests in their binary form
+//! - `jobs cdtext-corners`: the fixed list of these
 
+use second::cdtext_requests::Request;
 use second::rng::Rng;
-use second::{corners, random, requests};
+use second::{cdtext_corners, cdtext_random, corners, random, requests};
 use std::fs;
 use std::io::{self, stdout, BufWriter, Write};
 use std::path::Path;
@@ -15,7 +18,9 @@ use std::process::ExitCode;
 const USAGE: &str = "usage: jobs random SEED COUNT DIR
        jobs corners DIR
        jobs layouts SEED COUNT
-       jobs layout-corners";
+       jobs layout-corners
+       jobs cdtext SEED COUNT
+       jobs cdtext-corners";
 
 fn main() -> ExitCode {
     let words: Vec<String> = std::env::args().skip(1).collect();
@@ -35,6 +40,8 @@ fn run(words: &[&str]) -> Result<(), String> {
         ["corners", dir] => corner_jobs(Path::new(dir)),
         ["layouts", seed, count] => random_requests(number(seed)?, number(count)?),
         ["layout-corners"] => corner_requests(),
+        ["cdtext", seed, count] => random_cdtext(number(seed)?, number(count)?),
+        ["cdtext-corners"] => corner_cdtext(),
         _ => return Err(USAGE.to_string()),
     };
     result.map_err(|error| error.to_string())
@@ -106,6 +113,24 @@ fn print_lines(lines: impl Iterator<Item = String>) -> io::Result<()> {
     let mut output = BufWriter::with_capacity(1 << 16, stdout().lock());
     for line in lines {
         writeln!(output, "{line}")?;
+    }
+    output.flush()
+}
+
+fn random_cdtext(seed: u64, count: u64) -> io::Result<()> {
+    let mut rng = Rng::new(seed);
+    write_requests((0..count).map(|_| cdtext_random::request(&mut rng)))
+}
+
+fn corner_cdtext() -> io::Result<()> {
+    let corners = cdtext_corners::corners().into_iter();
+    write_requests(corners.map(|corner| corner.request))
+}
+
+fn write_requests(requests: impl Iterator<Item = Request>) -> io::Result<()> {
+    let mut output = BufWriter::with_capacity(1 << 16, stdout().lock());
+    for request in requests {
+        output.write_all(&request.bytes())?;
     }
     output.flush()
 }

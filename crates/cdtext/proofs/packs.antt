@@ -1,0 +1,9 @@
+pub mod Steps
+pub mod Sealing
+pub mod Places
+pub mod Texts
+pub mod Putting
+pub mod Reading
+pub mod Laws
+pub mod Making
+pub mod Runs

@@ -1,0 +1,119 @@
+-- Packs read back to the run they were made of, and a reader takes no others.
+use mathlib.Core.Path.{_≡_, refl, sym, ap, _∙_}
+use mathlib.Core.List.{List, [], _∷_, _++_}
+use mathlib.Core.Bool.{Bool, true, false, _&&_}
+use Prim.Native.Nat.{ℕ, _+_, _-_, _*_, _/_, _%_, _≤_}
+use native.Mathlib.Omega.{arith}
+use borrow.Author.Tests.{eq-eqb, leb-true, le-leb}
+use lib.Dec.{leb}
+use lib.ListN.{length, replicate, length-append}
+use Rattle.mmc.specs.Bytes.{if}
+use Rattle.mmc.specs.Refusals.{Outcome, pass, refuse}
+use Rattle.mmc.proofs.bytes.Steps.{both, known, same-is, same-refl, false-true}
+use Rattle.cdtext.specs.Titles.{allowed, titlesFrom, titleCount}
+use Rattle.cdtext.specs.Packs.{packs, packsOf, packsFor, textPacks, sizeRecord, sizePacks, textIn, trimmed, runIn, packsSize, areBytes, isPacks, readPacks}
+use Rattle.cdtext.proofs.packs.Texts.{texts-length, sizes-length, in-front, whole, trims}
+
+-- ---- the packs of a run
+
+module _ (run : List ℕ) where
+  texts-long : length (textPacks run (packsFor run)) ≡ 18 * packsFor run
+  texts-long = texts-length run (packsFor run)
+
+  pub long : length (packsOf run) ≡ 18 * (packsFor run + 3)
+  unfolding packsOf
+  long =
+      let sizes : List ℕ = sizeRecord (titleCount run) (packsFor run) in
+      omega (arith, length-append (textPacks run (packsFor run)) (sizePacks sizes (packsFor run)), texts-long, sizes-length sizes (packsFor run))
+
+  text : textIn (packsFor run) (packsOf run) ≡ run ++ replicate (12 * packsFor run - length run) 0
+  unfolding packsOf
+  text =
+      let k : ℕ = packsFor run in
+      let h : 18 * k ≤ length (textPacks run k) = omega (arith, texts-long) in
+      in-front k (textPacks run k) (sizePacks (sizeRecord (titleCount run) k) k) h ∙ whole run k (omega arith) (omega arith)
+
+-- a run that has packs is allowed, they are no more than 255, and they are these
+record Packed (run b : List ℕ) : Type 0 where
+  pub good : allowed run ≡ true
+  pub few : packsFor run + 3 ≤ 255
+  pub are : packsOf run ≡ b
+
+packed : (run b : List ℕ) → packs run ≡ pass b → Packed run b
+unfolding packs
+packed run b e = by (allowed run) (leb (packsFor run + 3) 255) refl refl e
+  where
+    by : (a f : Bool) → allowed run ≡ a → leb (packsFor run + 3) 255 ≡ f → if a (if f (pass (packsOf run)) (refuse 19)) (refuse 17) ≡ pass b → Packed run b
+    by true true x y h = record { good = x; few = leb-true (packsFor run + 3) 255 y; are = cc }
+    by true false x y h = absurd (let z : _≡_ {A = ℕ} 0 1 = cc in omega arith)
+    by false f x y h = absurd (let z : _≡_ {A = ℕ} 0 1 = cc in omega arith)
+
+pub few : (run b : List ℕ) → packs run ≡ pass b → (length b ≡ 18 * (packsFor run + 3)) × (packsFor run + 3 ≤ 255)
+few run b e = let w = packed run b e in (ap length (sym (w .are)) ∙ long run, w .few)
+
+pub no-gaps : (run b : List ℕ) → packs run ≡ pass b → textIn (packsFor run) b ≡ run ++ replicate (12 * packsFor run - length run) 0
+no-gaps run b e = rw (← packed run b e .are) (text run)
+
+-- ---- what is made reads back
+
+-- an allowed run has a byte
+none : allowed [] ≡ true → ⊥
+unfolding allowed titlesFrom titleCount
+none h = false-true h
+
+pub some : (run : List ℕ) → allowed run ≡ true → 1 ≤ length run
+some [] h = absurd (none h)
+some (x ∷ xs) h = omega arith
+
+trims-back : (run : List ℕ) (n : ℕ) → allowed run ≡ true → trimmed (run ++ replicate n 0) ++ 0 ∷ [] ≡ run
+unfolding allowed
+trims-back [] n h = absurd (none h)
+trims-back (x ∷ xs) n h =
+    let w = both (titlesFrom 0 (x ∷ xs)) (leb 1 (titleCount (x ∷ xs)) && leb (titleCount (x ∷ xs)) 99) h in
+    trims xs 0 x n (w .0)
+
+module _ (run b : List ℕ) (e : packs run ≡ pass b) where
+  p : Packed run b
+  p = packed run b e
+
+  size : (4 ≤ packsFor run + 3) × (packsFor run + 3 ≤ 255) × (length b ≡ 18 * (packsFor run + 3))
+  size = (omega (arith, some run (p .good)), p .few, few run b e .0)
+
+  size-back : packsSize (length b) ≡ true
+  unfolding packsSize
+  size-back =
+      let s = size in
+      simp (le-leb 72 (length b) (omega arith), le-leb (length b) 4590 (omega arith), eq-eqb (length b % 18) 0 (omega arith))
+
+  run-back : runIn b ≡ run
+  unfolding runIn
+  run-back =
+      let n : length b / 18 - 3 ≡ packsFor run = omega (arith, few run b e .0) in
+      rw (n, no-gaps run b e) (trims-back run (12 * packsFor run - length run) (p .good))
+
+  is-packs : isPacks b ≡ true
+  unfolding isPacks
+  is-packs = simp (size-back, run-back, e, same-refl b)
+
+pub reads-back : (run b : List ℕ) → packs run ≡ pass b → readPacks b ≡ pass run
+unfolding readPacks
+reads-back run b e = rw (is-packs run b e, run-back run b e)
+
+-- ---- a reader takes no others
+
+same-packs : (p : Outcome (List ℕ)) (b : List ℕ) → areBytes p b ≡ true → p ≡ pass b
+same-packs (pass a) b h = ap pass (same-is a b h)
+same-packs (refuse n) b h = absurd (false-true h)
+
+pub made : (b run : List ℕ) → readPacks b ≡ pass run → packs run ≡ pass b
+unfolding readPacks isPacks
+made b run e = known (isPacks b) yes no
+  where
+    yes : isPacks b ≡ true → packs run ≡ pass b
+    yes t =
+        let x : pass (runIn b) ≡ pass run = rw t at e in
+        let y : runIn b ≡ run = cc in
+        rw (← y) (same-packs (packs (runIn b)) b (both (packsSize (length b)) (areBytes (packs (runIn b)) b) t .1))
+
+    no : isPacks b ≡ false → packs run ≡ pass b
+    no t = let x : refuse 18 ≡ pass run = rw t at e in absurd (let y : _≡_ {A = ℕ} 0 1 = cc in omega arith)

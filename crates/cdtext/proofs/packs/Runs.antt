@@ -1,0 +1,85 @@
+-- The run that the text of packs gives, and what is read where the bytes are its packs.
+use mathlib.Core.Path.{_≡_, refl, sym, ap, _∙_}
+use mathlib.Core.List.{List, _++_}
+use mathlib.Core.Bool.{Bool, true, false, _&&_}
+use Prim.Native.Nat.{ℕ, zero, _+_, _-_, _*_, _/_, _%_, _≤_}
+use native.Mathlib.Omega.{arith}
+use borrow.Author.Tests.{leb-true, eqb-true}
+use lib.Dec.{leb, eqb}
+use lib.ListN.{length, take, drop, replicate}
+use Rattle.mmc.specs.Bytes.{if}
+use Rattle.mmc.specs.Refusals.{pass, refuse, answerOf, bufferOf, madeOf, Fills}
+use Rattle.mmc.specs.declared.refusals.Made.{Made}
+use Rattle.mmc.specs.declared.refusals.Made.the-variants as L
+use Rattle.mmc.specs.declared.refusals.Refusal.{Refusal}
+use Rattle.mmc.proofs.bytes.Steps.{both, zeros, drop-zeros}
+use Rattle.cdtext.specs.Packs.{packs, textIn, trimmed, runIn, packsSize, areBytes, isPacks, readPacks, FillsTitles, ReadsPacks}
+use Rattle.cdtext.specs.Refusals.{readOf}
+use Rattle.cdtext.specs.declared.refusals.Read.{Read}
+use Rattle.cdtext.specs.declared.refusals.Read.the-variants as R
+use Rattle.cdtext.specs.declared.refusals.Refusal.the-variants.{NoPacks}
+use Rattle.cdtext.proofs.packs.Reading.{text-length, cut-zeros, cut-under, one-more}
+use Rattle.cdtext.proofs.packs.Laws.{made, reads-back}
+
+-- what a length that packs can have says
+pub sized : (n : ℕ) → packsSize n ≡ true → (72 ≤ n) × (n ≤ 4590) × (n % 18 ≡ 0)
+unfolding packsSize
+sized n e =
+    let w = both (leb 72 n) (leb n 4590 && eqb (n % 18) 0) e in
+    let v = both (leb n 4590) (eqb (n % 18) 0) (w .1) in
+    (leb-true 72 n (w .0), leb-true n 4590 (v .0), eqb-true (n % 18) 0 (v .1))
+
+-- the text over zeros, up to one byte behind its last that is not zero
+pub run-is : (b text : List ℕ) (e : ℕ) → packsSize (length b) ≡ true → text ≡ textIn (length b / 18 - 3) b ++ drop (12 * (length b / 18 - 3)) (replicate 3025 0) → e ≡ length (trimmed text) → take (e + 1 - 0) text ≡ runIn b
+unfolding runIn
+run-is b text e s et ee =
+    let w = sized (length b) s in
+    let k : ℕ = length b / 18 - 3 in
+    let t = textIn k b in
+    let z : text ≡ t ++ zeros (3025 - 12 * k) = et ∙ ap (λ (l : List ℕ). t ++ l) (drop-zeros (12 * k) 3025 (omega arith)) in
+    let l : e ≡ length (trimmed t) = ee ∙ ap length (ap trimmed z ∙ cut-zeros (3025 - 12 * k) t) in
+    let j : e + 1 - 0 ≡ length (trimmed t) + 1 = omega arith in
+    ap (take (e + 1 - 0)) z ∙ ap (λ (n : ℕ). take n (t ++ zeros (3025 - 12 * k))) j ∙ one-more t (3025 - 12 * k) (omega arith)
+
+-- that byte lies in the text
+pub run-ends : (b text : List ℕ) → packsSize (length b) ≡ true → text ≡ textIn (length b / 18 - 3) b ++ drop (12 * (length b / 18 - 3)) (replicate 3025 0) → length (trimmed text) + 1 ≤ 3025
+run-ends b text s et =
+    let w = sized (length b) s in
+    let k : ℕ = length b / 18 - 3 in
+    let t = textIn k b in
+    let l = ap length (ap trimmed (et ∙ ap (λ (l : List ℕ). t ++ l) (drop-zeros (12 * k) 3025 (omega arith))) ∙ cut-zeros (3025 - 12 * k) t) in
+    omega (arith, l, text-length k b (omega arith), cut-under t)
+
+-- ---- what is read
+
+-- a refusal leaves the buffer as it was: 18
+pub refused : (b d : List ℕ) → isPacks b ≡ false → FillsTitles (readPacks b) (R.Refused NoPacks) d d
+unfolding readPacks answerOf bufferOf
+refused b d e = rw e (record { answer = refl; buffer = refl })
+
+pub not-size : (b : List ℕ) → packsSize (length b) ≡ false → isPacks b ≡ false
+unfolding isPacks
+not-size b e = rw e
+
+pub by-packs : (b run : List ℕ) (t : Bool) → packsSize (length b) ≡ true → run ≡ runIn b → t ≡ areBytes (packs run) b → isPacks b ≡ t
+unfolding isPacks
+by-packs b run t s e et = rw (s, ← e) (sym et)
+
+-- what was filled in for the run is what is read
+pub filled : (b run d out : List ℕ) (m : Made) (r : Read) → isPacks b ≡ true → run ≡ runIn b → Fills (pass run) m d out → readOf r ≡ madeOf m → FillsTitles (readPacks b) r d out
+unfolding readPacks
+filled b run d out m r t e f h =
+    let x : readPacks b ≡ pass run = rw (t, e) in
+    rw x (record { answer = h ∙ f .answer; buffer = f .buffer })
+
+-- a filler refuses for the buffer alone
+pub only-short : (run d out : List ℕ) (q : Refusal) → Fills (pass run) (L.Refused q) d out → refuse 11 ≡ madeOf (L.Refused q)
+unfolding answerOf
+only-short run d out q f = by (leb (length run) (length d)) (f .answer)
+  where
+    by : (t : Bool) → madeOf (L.Refused q) ≡ if t (pass (length run)) (refuse 11) → refuse 11 ≡ madeOf (L.Refused q)
+    by true e = absurd (let z : _≡_ {A = ℕ} 0 1 = cc in omega arith)
+    by false e = sym e
+
+pub reads : {b : List ℕ} {r : Read} {before after : List ℕ} → FillsTitles (readPacks b) r before after → ReadsPacks b r before after
+reads {b} f = record { filled = f; made = made b; no-other = λ run. reads-back run b }
