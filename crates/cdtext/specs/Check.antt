@@ -1,7 +1,9 @@
 -- The two check bytes of a pack, bit by bit: "the CRC of the 16 before: polynomial 1021h, start 0, all bits inverted".
-use Prim.Native.Nat.{ℕ, _-_, _*_, _%_}
+use mathlib.Core.Path.{_≡_}
+use Prim.Native.Nat.{ℕ, _-_, _*_, _%_, _<_}
 use mathlib.Core.List.{List, [], _∷_}
 use lib.Dec.{leb}
+use lib.ListN.{length, getD}
 use lib.Bits.{bitXor}
 use Rattle.mmc.specs.Bytes.{if}
 
@@ -15,6 +17,11 @@ eightBits r = bitStep (bitStep (bitStep (bitStep (bitStep (bitStep (bitStep (bit
 -- a byte comes in at the top, and its eight bits are worked off
 abbrev pub byteIn : ℕ → ℕ → ℕ
 byteIn r x = eightBits (bitXor r (x * 256))
+
+-- the rule of the table of 256 remainders: at each place what is left of that byte alone
+pub record AreRemainders (table : List ℕ) : Type 0 where
+  pub long : length table ≡ 256
+  pub each : (x : ℕ) → x < 256 → getD table x 0 ≡ eightBits (x * 256)
 
 unfoldable pub remainderFrom : ℕ → List ℕ → ℕ
 remainderFrom r [] = r

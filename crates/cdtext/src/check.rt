@@ -1,7 +1,6 @@
 // The two check bytes of a pack as one number: a CRC, byte by byte over a table.
 ghost use mathlib.Core.Path.{_≡_};
-ghost use Prim.Native.Nat.{_*_, _<_};
-ghost use Rattle.cdtext.specs.Check.{eightBits, byteIn, checkOf};
+ghost use Rattle.cdtext.specs.Check.{AreRemainders, checkOf};
 
 // What is left of each byte, at the top of 16 bits, after eight bits of the division by the polynomial 1021h.
 const REMAINDERS: [u16; 256] = [
@@ -263,30 +262,23 @@ const REMAINDERS: [u16; 256] = [
     0x1EF0,
 ];
 
-// The remainder of a byte alone.
-fn remainder_of(x: usize) -> u16
-    requires { ⌜ x < 256 ⌝ }
-    ensures { λ r. ⌜ r ≡ eightBits (x * 256) ⌝ }
+// The table, with its rule at each entry.
+fn remainders() -> [u16; 256]
+    ensures { λ r. ⌜ AreRemainders r ⌝ }
 {
-    REMAINDERS[x]
-}
-
-// The remainder after one more byte.
-fn byte_in(r: u16, x: u8) -> u16
-    ensures { λ s. ⌜ s ≡ byteIn r x ⌝ }
-{
-    let top = (r >> 8) ^ x as u16;
-    (r << 8) ^ remainder_of(top as usize)
+    REMAINDERS
 }
 
 // The check bytes over b, high byte first, as a number.
 pub fn check_of(b: &[u8]) -> u16
     ensures { λ r. ⌜ r ≡ checkOf (now (b .entry)) ⌝ }
 {
+    let table = remainders();
     let mut r: u16 = 0;
     let mut i: usize = 0;
     while i < b.len() {
-        r = byte_in(r, b[i]);
+        let top = (r >> 8) ^ b[i] as u16;
+        r = (r << 8) ^ table[top as usize];
         i = i + 1;
     }
     !r

@@ -6,7 +6,7 @@ use native.Mathlib.Nat.{add-zero}
 use native.Mathlib.Omega.{arith}
 use borrow.Author.Tests.{le-leb, lt-leb, leb-true, leb-false}
 use lib.Arith.{bin-ind}
-use lib.Bits.{bitXor, xor-block, xor-shr, xor-mod, xor-shifted, xor-zero-r, xor-comm}
+use lib.Bits.{bitXor, xor-block, xor-shr, xor-mod, xor-shifted, xor-zero-r, xor-comm, xor-lt}
 use lib.Dec.{leb}
 use Rattle.mmc.specs.Bytes.{if}
 use Rattle.mmc.proofs.bytes.Steps.{known}
@@ -113,3 +113,12 @@ byte-law r x =
     let t = bitXor (r / 256) x * 256 in
     let e : r % 256 * 256 ≡ r * 256 % 65536 = omega arith in
     ap eightBits (at-top r x) ∙ eight t (r % 256) (omega arith) ∙ xor-comm (eightBits t) (r % 256 * 256) ∙ rw e
+
+-- a remainder has 16 bits
+pub step-lt : (r : ℕ) → bitStep r < 65536
+unfolding bitStep
+step-lt r = either (leb 0x8000 r) (r * 2 % 65536) (omega arith)
+  where
+    either : (t : Bool) (u : ℕ) → u < 65536 → if t (bitXor 0x1021 u) u < 65536
+    either true u h = xor-lt 16 0x1021 u (omega arith) h
+    either false u h = h

@@ -1,40 +1,65 @@
 use mathlib.Core.Path.{_≡_, refl, sym, ap, _∙_}
 use mathlib.Core.List.{List}
-use Prim.Native.Nat.{ℕ, _≤_, _<_, _-_, _+_, zero-le}
+use Prim.Native.Nat.{ℕ, _+_, _-_, _*_, _/_, _%_, _≤_, _<_, zero-le}
 use native.Mathlib.Omega.{arith}
 use borrow.Author.Needs.{needs}
+use lib.Bits.{bitXor, xor-lt}
 use lib.ListN.{length, getD, drop, drop-of-length-le}
 use Rattle.mmc.proofs.bytes.Steps.{drop-next}
-use Rattle.cdtext.specs.Check.{byteIn, remainderFrom, checkOf}
+use Rattle.cdtext.specs.Check.{AreRemainders, remainderFrom, checkOf}
+use Rattle.cdtext.proofs.check.Xor.{byte-law, step-lt}
 use Rattle.cdtext.proofs.check.check_of.Statement.{statement}
 use Rattle.cdtext.proofs.check.check_of.Tie as tie
 
--- the byte at i comes in
-remainder-next : (r : ℕ) (b : List ℕ) (i : ℕ)
-    → i < length b → remainderFrom r (drop i b) ≡ remainderFrom (byteIn r (getD b i 0)) (drop (i + 1) b)
+-- the byte at i comes in, by the table
+remainder-next : (table : List ℕ) (r : ℕ) (b : List ℕ) (i : ℕ) → AreRemainders table → i < length b → bitXor (r / 256) (getD b i 0) < 256
+    → remainderFrom (bitXor (r * 256 % 65536) (getD table (bitXor (r / 256) (getD b i 0)) 0)) (drop (i + 1) b) ≡ remainderFrom r (drop i b)
 unfolding remainderFrom
-remainder-next r b i h = ap (remainderFrom r) (drop-next b i h)
+remainder-next table r b i t h l =
+    let x = getD b i 0 in
+    ap (λ (s : ℕ). remainderFrom s (drop (i + 1) b)) (ap (bitXor (r * 256 % 65536)) (t .each (bitXor (r / 256) x) l) ∙ sym (byte-law r x))
+    ∙ sym (ap (remainderFrom r) (drop-next b i h))
+
+next-lt : (table : List ℕ) (r k : ℕ) → AreRemainders table → k < 256 → bitXor (r * 256 % 65536) (getD table k 0) < 65536
+next-lt table r k t h = xor-lt 16 (r * 256 % 65536) (getD table k 0) (omega arith) (rw (t .each k h) (step-lt _))
 
 -- no byte is left
-check-end : (r : ℕ) (b : List ℕ) (i : ℕ)
-    → length b ≤ i → remainderFrom r (drop i b) ≡ remainderFrom 0 b → 65535 - r ≡ checkOf b
+check-end : (r : ℕ) (b : List ℕ) (i : ℕ) → length b ≤ i → remainderFrom r (drop i b) ≡ remainderFrom 0 b → 65535 - r ≡ checkOf b
 unfolding remainderFrom checkOf
 check-end r b i h e = ap (λ (x : ℕ). 65535 - x) (ap (remainderFrom r) (sym (drop-of-length-le b h)) ∙ e)
 
 abbrev Inv-loop : tie.InvT-loop
-Inv-loop b r₀ i₀ r i = (i ≤ length b) × (remainderFrom r (drop i b) ≡ remainderFrom 0 b)
+Inv-loop b table r₀ i₀ r i = (i ≤ length b) × (r < 65536) × (remainderFrom r (drop i b) ≡ remainderFrom 0 b)
 
 abbrev μ-loop : tie.MeasureT-loop
-μ-loop b r₀ i₀ r i = length b - i
+μ-loop b table r₀ i₀ r i = length b - i
+
+-- the place in the table
+top-lt : (c : tie.After-shared-slice-known2 Inv-loop μ-loop) → bitXor (c .before .before .loop .r / 256) (getD (c .before .before .before .before .before .args .b .now) (c .before .before .loop .i) 0) < 256
+top-lt c =
+    let l = c .before .before .loop in
+    xor-lt 8 (l .r / 256) (getD (c .before .before .before .before .before .args .b .now) (l .i) 0) (omega arith) (c .shared-slice-known2 .given (l .i) .fits)
+
+remainders-requires : tie.Need-remainders-requires Inv-loop μ-loop
+remainders-requires c κs = search needs
 
 loop-holds : tie.Need-loop-holds Inv-loop μ-loop
-loop-holds c = (zero-le, refl)
+loop-holds c = (zero-le, omega arith, refl)
 
-shared-slice-read-byte-in : tie.Need-shared-slice-read-byte-in Inv-loop μ-loop
-shared-slice-read-byte-in c = omega arith
+shared-slice-read-top : tie.Need-shared-slice-read-top Inv-loop μ-loop
+shared-slice-read-top c = omega arith
 
-byte-in-requires : tie.Need-byte-in-requires Inv-loop μ-loop
-byte-in-requires c κs = search needs
+cast-top : tie.Need-cast-top Inv-loop μ-loop
+cast-top c = search (needs, c .shared-slice-known2 .given (c .before .before .loop .i))
+
+cast-r : tie.Need-cast-r Inv-loop μ-loop
+cast-r c = search (needs, top-lt c)
+
+mul-r : tie.Need-mul-r Inv-loop μ-loop
+mul-r c = search (needs, top-lt c)
+
+array-read-r : tie.Need-array-read-r Inv-loop μ-loop
+array-read-r c = search (needs, top-lt c)
 
 add-i : tie.Need-add-i Inv-loop μ-loop
 add-i c = omega arith
@@ -44,17 +69,15 @@ loop-less c = omega arith
 
 loop-again : tie.Need-loop-again Inv-loop μ-loop
 loop-again c =
-    let l = c .before .before .before in
-    let b = l .before .before .args .b .now in
-    let i = l .loop .i in
-    let e = ap (λ (r : ℕ). remainderFrom r (drop (i + 1) b)) (c .byte-in .ensures) in
-    (omega arith, e ∙ sym (remainder-next (l .loop .r) b i (omega arith)) ∙ l .loop .inv .1)
+    let l = c .before .before in
+    let b = l .before .before .before .args .b .now in
+    let t = l .before .remainders in
+    (omega arith, next-lt (t .result) (l .loop .r) _ (t .ensures) (top-lt c), remainder-next (t .result) (l .loop .r) b (l .loop .i) (t .ensures) (omega arith) (top-lt c) ∙ l .loop .inv .2)
 
 returns : tie.Need-returns Inv-loop μ-loop
 returns c =
     let l = c .before in
-    let b = l .before .before .args .b .now in
-    check-end (l .loop .r) b (l .loop .i) (omega arith) (l .loop .inv .1)
+    check-end (l .loop .r) (l .before .before .before .args .b .now) (l .loop .i) (omega arith) (l .loop .inv .2)
 
 pub check-of-spec : {M : Type 1} → statement M
 check-of-spec =
@@ -62,9 +85,13 @@ check-of-spec =
     (tie.spec
     Inv-loop
     μ-loop
+    remainders-requires
     loop-holds
-    shared-slice-read-byte-in
-    byte-in-requires
+    shared-slice-read-top
+    cast-top
+    cast-r
+    mul-r
+    array-read-r
     add-i
     loop-less
     loop-again
