@@ -33,11 +33,13 @@ fn title_length(n: usize) -> bool
 fn goes_on(c: usize, x: u8) -> bool
     ensures { λ r. ⌜ r ≡ if (eqb x 0) (titleLength c) (isCharacter x) ⌝ }
 {
-    if x == 0 {
-        title_length(c)
-    } else {
-        is_character(x)
+    if is_character(x) {
+        return true;
     }
+    if x != 0 {
+        return false;
+    }
+    title_length(c)
 }
 
 // How many characters of a title have come behind a byte.
