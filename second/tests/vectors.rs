@@ -1,14 +1,19 @@
-//! The stored vectors of the layouts: their binary form and their answers are
-//! those of their text.
+//! The stored vectors of the layouts and of CD-TEXT. Those of the layouts: their
+//! binary form and their answers are those of their text.
 
+use second::cdtext_requests::requests_in;
 use second::layouts::answer;
 use second::packed::{kept, pack_text};
 use std::fs;
 use std::path::{Path, PathBuf};
 
+fn stored_with(program: &str, name: &str) -> PathBuf {
+    let folder = Path::new(env!("CARGO_MANIFEST_DIR")).join("../crates");
+    folder.join(program).join(name)
+}
+
 fn stored(name: &str) -> PathBuf {
-    let folder = Path::new(env!("CARGO_MANIFEST_DIR")).join("../crates/bench_layouts");
-    folder.join(name)
+    stored_with("bench_layouts", name)
 }
 
 #[test]
@@ -28,4 +33,23 @@ fn answers_are_ours() {
         assert!(answer(request) == stored, "{request}");
     }
     assert!(answers.ends_with('\n'));
+}
+
+/// The three example packs of document 000 come first, then runs of titles made
+/// into packs and read back, whole and damaged, and runs that are refused.
+#[test]
+fn cdtext_answers_are_ours() {
+    let vectors = fs::read(stored_with("packs", "stdin")).expect("the vectors");
+    let answers = fs::read(stored_with("packs", "stdout")).expect("their answers");
+    let requests = requests_in(&vectors).expect("whole requests");
+    let ours: Vec<u8> = requests
+        .iter()
+        .flat_map(|request| request.answer())
+        .collect();
+    assert!(ours == answers);
+    assert_eq!(
+        answers[..9],
+        [0, 0x48, 0x65, 0, 0xC0, 0x20, 0, 0x11, 0x45],
+        "the check bytes of document 000's packs"
+    );
 }
