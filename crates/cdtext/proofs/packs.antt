@@ -1,6 +1,7 @@
 pub mod Steps
 pub mod Sealing
 pub mod Places
+pub mod Tracks
 pub mod Texts
 pub mod Putting
 pub mod Reading

@@ -144,12 +144,14 @@ pub record IsRun (run : List ℕ) (titles : List (List ℕ)) : Type 0 where
   pub some : 1 ≤ length titles
   pub few : length titles ≤ 99
 
--- what the maker promises: 17, 19, 11 or the packs; that 17 is for just the runs that are none of allowed titles; that packs are at
--- most 255, bear the text without gaps and read back
+-- what the maker promises: 17, 19, 11 or the packs; that 17 is for just the runs that are none of allowed titles, n of them being
+-- counted as n; that a pack whose text begins behind m characters of a title bears that title's track and m; that packs are at most
+-- 255, bear the text without gaps and read back
 pub record MakesPacks (run : List ℕ) (r : Made) (before after : List ℕ) : Type 0 where
   pub filled : FillsPacks (packs run) r before after
   pub titles : allowed run ≡ true → (ts : List (List ℕ)) × IsRun run ts
-  pub allows : (ts : List (List ℕ)) → IsRun run ts → allowed run ≡ true
+  pub allows : (ts : List (List ℕ)) → IsRun run ts → (allowed run ≡ true) × (titleCount run ≡ length ts)
+  pub placed : (earlier later : List (List ℕ)) (t : List ℕ) (k m : ℕ) → IsRun run (earlier ++ t ∷ later) → 12 * k ≡ length (runOf earlier) + m → m ≤ length t → placeAt run k ≡ record { track = length earlier + 1; count = m }
   pub few : (b : List ℕ) → packs run ≡ pass b → (length b ≡ 18 * (packsFor run + 3)) × (packsFor run + 3 ≤ 255)
   pub no-gaps : (b : List ℕ) → packs run ≡ pass b → textIn (packsFor run) b ≡ run ++ replicate (12 * packsFor run - length run) 0
   pub reads-back : (b : List ℕ) → packs run ≡ pass b → readPacks b ≡ pass run

@@ -20,6 +20,7 @@ use Rattle.cdtext.specs.declared.refusals.Refusal.{Refusal}
 use Rattle.cdtext.proofs.titles.Steps.{found}
 use Rattle.cdtext.proofs.titles.Laws.{titles, allows}
 use Rattle.cdtext.proofs.packs.Steps.{put-more}
+use Rattle.cdtext.proofs.packs.Tracks.{placed}
 use Rattle.cdtext.proofs.packs.Texts.{texts-length}
 use Rattle.cdtext.proofs.packs.Laws.{some, long, few, no-gaps, reads-back}
 
@@ -94,6 +95,7 @@ makes {run} f =
       filled = f;
       titles = titles run;
       allows = allows run;
+      placed = placed run;
       few = few run;
       no-gaps = no-gaps run;
       reads-back = reads-back run;

@@ -23,7 +23,7 @@ place-end p t i h = ap (placeAfter p) (drop-of-length-le t h)
 
 -- ---- one part after the other
 
-place-append : (p : Place) (s t : List ℕ) → placeAfter p (s ++ t) ≡ placeAfter (placeAfter p s) t
+pub place-append : (p : Place) (s t : List ℕ) → placeAfter p (s ++ t) ≡ placeAfter (placeAfter p s) t
 unfolding placeAfter
 place-append p [] t = refl
 place-append p (x ∷ s) t = place-append (nextPlace p x) s t

@@ -1,5 +1,5 @@
 -- The runs that are allowed are those of 1 to 99 allowed titles.
-use mathlib.Core.Path.{_≡_, refl, sym, _∙_}
+use mathlib.Core.Path.{_≡_, refl, sym, _∙_, ap}
 use mathlib.Core.List.{List, [], _∷_, _++_}
 use mathlib.Core.Bool.{true, false, _&&_}
 use Prim.Native.Nat.{ℕ, suc, _+_, _≤_}
@@ -84,7 +84,7 @@ titles run h =
 -- ---- from titles to their run
 
 -- a character is not the zero that ends a title
-not-end : (x : ℕ) → isCharacter x ≡ true → eqb x 0 ≡ false
+pub not-end : (x : ℕ) → isCharacter x ≡ true → eqb x 0 ≡ false
 not-end x h =
     let w = both (leb 0x20 x) (leb x 0x7E) h in
     ne-eqb x 0 (λ e. omega (arith, leb-true 0x20 x (w .0)))
@@ -115,11 +115,11 @@ run-good (t ∷ ts) a =
     let e : 0 + length t ≡ length t = omega arith in
     (rw (title-from t 0 (runOf ts) (v .1), e, v .0, r .0), omega (arith, title-count t (runOf ts) (v .1), r .1))
 
-pub allows : (run : List ℕ) (ts : List (List ℕ)) → IsRun run ts → allowed run ≡ true
+pub allows : (run : List ℕ) (ts : List (List ℕ)) → IsRun run ts → (allowed run ≡ true) × (titleCount run ≡ length ts)
 unfolding allowed
 allows run ts i =
     let r = run-good ts (i .good) in
     let n : titleCount (runOf ts) ≡ length ts = r .1 in
     let low : leb 1 (length ts) ≡ true = le-leb 1 (length ts) (i .some) in
     let high : leb (length ts) 99 ≡ true = le-leb (length ts) 99 (i .few) in
-    rw (i .packed, r .0, n, low, high)
+    (rw (i .packed, r .0, n, low, high), ap titleCount (i .packed) ∙ n)
