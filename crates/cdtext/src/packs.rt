@@ -7,7 +7,7 @@ ghost use lib.ListN.{length, take, drop};
 ghost use Rattle.mmc.specs.Bytes.{sameBytes};
 ghost use Rattle.cdtext.specs.Titles.{titleCount};
 ghost use Rattle.cdtext.specs.Bench.{ExamplePacks};
-ghost use Rattle.cdtext.specs.Packs.{pack, nextPlace, placeAfter, textPack, textPacks, packsFor, sizeRecord, sizePack, sizePacks, packsOf, packs, textIn, trimmed, packsSize, areBytes, runIn, readPacks, Fits, FillsTitles, MakesPacks, ReadsPacks};
+ghost use Rattle.cdtext.specs.Packs.{pack, nextPlace, placeAfter, textPacks, packsFor, sizeRecord, sizePack, sizePacks, packsOf, packs, textIn, trimmed, packsSize, areBytes, runIn, readPacks, Fits, FillsTitles, MakesPacks, ReadsPacks};
 use crate::check::check_of;
 use crate::refusals::Made;
 use crate::refusals::Read;

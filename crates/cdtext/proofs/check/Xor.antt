@@ -4,10 +4,10 @@ use mathlib.Core.Bool.{Bool, true, false}
 use Prim.Native.Nat.{ℕ, zero, suc, _+_, _*_, _/_, _%_, _<_}
 use native.Mathlib.Nat.{add-zero}
 use native.Mathlib.Omega.{arith}
-use borrow.Author.Tests.{le-leb, lt-leb, leb-true, leb-false}
 use lib.Arith.{bin-ind}
 use lib.Bits.{bitXor, xor-block, xor-shr, xor-mod, xor-shifted, xor-zero-r, xor-comm, xor-lt}
 use lib.Dec.{leb}
+use borrow.Author.Tests.{le-leb, lt-leb, leb-true, leb-false}
 use Rattle.mmc.specs.Bytes.{if}
 use Rattle.mmc.proofs.bytes.Steps.{known}
 use Rattle.cdtext.specs.Check.{bitStep, eightBits, byteIn}

@@ -4,9 +4,9 @@ use mathlib.Core.List.{List, [], _∷_, _++_}
 use mathlib.Core.Bool.{Bool, true, false, _&&_}
 use Prim.Native.Nat.{ℕ, _+_, _-_, _*_, _/_, _%_, _≤_}
 use native.Mathlib.Omega.{arith}
-use borrow.Author.Tests.{eq-eqb, leb-true, le-leb}
 use lib.Dec.{leb}
 use lib.ListN.{length, replicate, length-append}
+use borrow.Author.Tests.{eq-eqb, leb-true, le-leb}
 use Rattle.mmc.specs.Bytes.{if}
 use Rattle.mmc.specs.Refusals.{Outcome, pass, refuse}
 use Rattle.mmc.proofs.bytes.Steps.{both, known, same-is, same-refl, false-true}

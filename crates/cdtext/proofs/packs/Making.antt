@@ -4,10 +4,10 @@ use mathlib.Core.List.{List, _++_}
 use mathlib.Core.Bool.{Bool, true, false}
 use Prim.Native.Nat.{ℕ, _+_, _-_, _*_, _≤_, _<_}
 use native.Mathlib.Omega.{arith}
-use borrow.Author.Tests.{le-leb, lt-leb, leb-true}
 use lib.Dec.{leb}
 use lib.ListN.{length, take, drop}
 use lib.Seq.{take-at}
+use borrow.Author.Tests.{le-leb, lt-leb, leb-true}
 use Rattle.mmc.specs.Bytes.{sameBytes}
 use Rattle.mmc.specs.Refusals.{pass, refuse, answerOf, bufferOf}
 use Rattle.mmc.proofs.bytes.Steps.{known, both, same-is}

@@ -4,10 +4,10 @@ use mathlib.Core.List.{List, _++_}
 use Prim.Native.Nat.{ℕ, suc, _+_, _-_, _*_, _≤_, _<_, min}
 use native.Mathlib.Numerals.{add-one}
 use native.Mathlib.Omega.{arith}
-use borrow.Author.Tests.{leb-true, leb-false}
 use lib.Dec.{leb}
 use lib.ListN.{length, take, drop, length-drop, length-take}
 use lib.Seq.{take-all}
+use borrow.Author.Tests.{leb-true, leb-false}
 use Rattle.mmc.proofs.bytes.Steps.{known}
 use Rattle.cdtext.specs.Packs.{pack, placeAfter, placeAt, firstPlace, textPack, textPacks, packsFor, Fits}
 use Rattle.cdtext.specs.declared.packs.Place.{Place}

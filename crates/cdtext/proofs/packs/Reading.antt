@@ -5,10 +5,10 @@ use mathlib.Core.Bool.{Bool, true, false, _&&_}
 use Prim.Native.Nat.{ℕ, zero, suc, _+_, _-_, _*_, _≤_, _<_}
 use native.Mathlib.Numerals.{add-one}
 use native.Mathlib.Omega.{arith}
-use borrow.Author.Tests.{eq-eqb, ne-eqb}
 use lib.Dec.{eqb}
 use lib.ListN.{length, getD, take, drop, length-append, length-drop}
 use lib.Seq.{length-take-le, take-suc, take-length, take-append-add}
+use borrow.Author.Tests.{eq-eqb, ne-eqb}
 use Rattle.mmc.specs.Bytes.{if, allZero}
 use Rattle.mmc.specs.Refusals.{pass, bufferOf}
 use Rattle.mmc.proofs.bytes.Steps.{known, zeros, zeros-are}

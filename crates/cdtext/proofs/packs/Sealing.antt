@@ -3,9 +3,9 @@ use mathlib.Core.Path.{_≡_, ap, _∙_}
 use mathlib.Core.List.{List, [], _∷_, _++_, append-assoc}
 use Prim.Native.Nat.{ℕ, zero, _+_, _-_, _/_, _%_, _≤_}
 use native.Mathlib.Omega.{arith}
-use borrow.Author.Tests.{le-leb}
 use lib.ListN.{length, take, set, replicate, length-append, length-replicate}
 use lib.Seq.{take-at, set-at}
+use borrow.Author.Tests.{le-leb}
 use Rattle.mmc.specs.Refusals.{pass, bufferOf}
 use Rattle.mmc.proofs.bytes.Steps.{drop-zeros}
 use Rattle.cdtext.specs.Check.{checkOf}

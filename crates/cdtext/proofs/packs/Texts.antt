@@ -4,23 +4,21 @@ use mathlib.Core.List.{List, [], _∷_, _++_, append-assoc, append-nil}
 use mathlib.Core.Bool.{true, false}
 use Prim.Native.Nat.{ℕ, zero, suc, _+_, _-_, _*_, _≤_, min}
 use native.Mathlib.Omega.{arith}
-use borrow.Author.Tests.{eqb-true}
 use lib.Dec.{eqb}
-use lib.ListN.{length, take, drop, replicate, length-append, length-take, length-drop, length-replicate}
+use lib.ListN.{length, take, drop, replicate, length-append, length-take, length-drop}
 use lib.Seq.{take-append-le, drop-append-le, take-at, drop-at, drop-drop, take-add, take-all}
+use borrow.Author.Tests.{eqb-true}
 use Rattle.mmc.specs.Bytes.{bytes16, allZero}
 use Rattle.mmc.proofs.bytes.Steps.{both, known, false-true, zeros-zero}
 use Rattle.cdtext.specs.Check.{checkOf}
 use Rattle.cdtext.specs.Titles.{titlesFrom, isCharacter, titleLength}
 use Rattle.cdtext.specs.Packs.{padded, pack, placeAt, textPack, textPacks, sizePack, sizePacks, textIn, trimmed}
+use Rattle.cdtext.proofs.packs.Sealing.{padded-length}
 
 -- ---- lengths
 
 twelve : (b : List ℕ) → length (take 12 b) ≤ 12
 twelve b = omega (arith, length-take 12 b)
-
-padded-length : (text : List ℕ) → length text ≤ 12 → length (padded text) ≡ 12
-padded-length text h = omega (arith, length-append text (replicate (12 - length text) 0), length-replicate {A = ℕ} (12 - length text) 0)
 
 -- the bytes of a pack: four, the text, and two for a number that isn't looked into
 pack-parts : (type track number position : ℕ) (text : List ℕ)

@@ -4,10 +4,10 @@ use mathlib.Core.List.{List, [], _∷_, _++_}
 use mathlib.Core.Bool.{true, false, _&&_}
 use Prim.Native.Nat.{ℕ, suc, _+_, _≤_}
 use native.Mathlib.Omega.{arith}
-use borrow.Author.Tests.{eqb-true, ne-eqb, leb-true, le-leb}
 use lib.Dec.{eqb, leb}
 use lib.ListN.{length, length-append}
 use lib.Seq.{append-snoc}
+use borrow.Author.Tests.{eqb-true, ne-eqb, leb-true, le-leb}
 use Rattle.mmc.proofs.bytes.Steps.{both, known}
 use Rattle.cdtext.specs.Titles.{isCharacter, titleLength, titlesFrom, titleCount, allowed, allCharacters, allTitles, runOf}
 use Rattle.cdtext.specs.Packs.{IsRun}

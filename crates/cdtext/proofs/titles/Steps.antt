@@ -4,9 +4,9 @@ use mathlib.Core.List.{List, _∷_}
 use mathlib.Core.Bool.{Bool, true, false, _&&_}
 use Prim.Native.Nat.{ℕ, _+_, _≤_, _<_}
 use native.Mathlib.Omega.{arith}
-use borrow.Author.Tests.{eq-eqb, ne-eqb, le-leb, lt-leb, leb-false}
 use lib.Dec.{eqb, leb}
 use lib.ListN.{length, getD, drop, drop-of-length-le}
+use borrow.Author.Tests.{eq-eqb, ne-eqb, le-leb, lt-leb, leb-false}
 use Rattle.mmc.specs.Bytes.{if}
 use Rattle.mmc.proofs.bytes.Steps.{drop-next, known}
 use Rattle.cdtext.specs.Titles.{isCharacter, titleLength, titlesFrom, titleCount, allowed}

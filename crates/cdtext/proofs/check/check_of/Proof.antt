@@ -2,9 +2,9 @@ use mathlib.Core.Path.{_≡_, refl, sym, ap, _∙_}
 use mathlib.Core.List.{List}
 use Prim.Native.Nat.{ℕ, _+_, _-_, _*_, _/_, _%_, _≤_, _<_, zero-le}
 use native.Mathlib.Omega.{arith}
-use borrow.Author.Needs.{needs}
 use lib.Bits.{bitXor, xor-lt}
 use lib.ListN.{length, getD, drop, drop-of-length-le}
+use borrow.Author.Needs.{needs}
 use Rattle.mmc.proofs.bytes.Steps.{drop-next}
 use Rattle.cdtext.specs.Check.{AreRemainders, remainderFrom, checkOf}
 use Rattle.cdtext.proofs.check.Xor.{byte-law, step-lt}

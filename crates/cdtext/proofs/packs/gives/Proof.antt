@@ -1,9 +1,14 @@
+use mathlib.Core.Bool.{true}
+use mathlib.Core.Path.{_≡_, _∙_}
 use lib.ListN.{replicate}
-use mathlib.Core.Path.{_∙_}
-use Rattle.cdtext.proofs.packs.Making.{counted, none, too-many, passed, fits, other-length, as-packs}
 use borrow.Author.Needs.{needs}
+use Rattle.cdtext.specs.Titles.{allowed, titleCount}
+use Rattle.cdtext.proofs.packs.Making.{counted, none, too-many, passed, fits, other-length, as-packs}
 use Rattle.cdtext.proofs.packs.gives.Statement.{statement}
 use Rattle.cdtext.proofs.packs.gives.Tie as tie
+
+good : (c : tie.Else1) → (allowed (c .before .before .before .before .args .run .now) ≡ true) × (c .before .count-titles .result ≡ titleCount (c .before .before .before .before .args .run .now))
+good c = counted _ (c .before .count-titles .result) (c .before .count-titles .ensures) (c .if1 .left)
 
 count-titles-requires : tie.Need-count-titles-requires
 count-titles-requires c κs = search needs
@@ -17,10 +22,9 @@ returns c =
 returns-2 : tie.Need-returns-2
 returns-2 c =
     let e = c .before in
-    let t = e .before in
-    let a = t .before .before .before .args in
+    let a = e .before .before .before .before .args in
     let run = a .run .now in
-    let w = counted run (t .count-titles .result) (t .count-titles .ensures) (e .if1 .left) in
+    let w = good e in
     rw (too-many run (w .0) (c .if2 .taken))
 
 packs-for-requires : tie.Need-packs-for-requires
@@ -36,10 +40,9 @@ returns-3 : tie.Need-returns-3
 returns-3 c =
     let p = c .before in
     let e = p .before .before in
-    let t = e .before in
-    let a = t .before .before .before .args in
+    let a = e .before .before .before .before .args in
     let run = a .run .now in
-    let w = counted run (t .count-titles .result) (t .count-titles .ensures) (e .if1 .left) in
+    let w = good e in
     other-length run (a .b .now) (passed run (w .0) (p .before .if2 .left)) (λ h. c .if3 .taken (h ∙ rw (p .packs-for .ensures)))
 
 slice-aggregate-put-packs : tie.Need-slice-aggregate-put-packs
@@ -49,10 +52,9 @@ put-packs-requires : tie.Need-put-packs-requires
 put-packs-requires c κs =
     let p = c .before .before in
     let e = p .before .before in
-    let t = e .before in
-    let a = t .before .before .before .args in
+    let a = e .before .before .before .before .args in
     let run = a .run .now in
-    let w = counted run (t .count-titles .result) (t .count-titles .ensures) (e .if1 .left) in
+    let w = good e in
     (fits run 4590 (w .0) (p .before .if2 .left) (search needs), w .1)
 
 sub-same : tie.Need-sub-same
@@ -73,10 +75,9 @@ returns-4 c =
     let q = u .before .before in
     let p = q .before in
     let e = p .before .before in
-    let t = e .before in
-    let a = t .before .before .before .args in
+    let a = e .before .before .before .before .args in
     let run = a .run .now in
-    let w = counted run (t .count-titles .result) (t .count-titles .ensures) (e .if1 .left) in
+    let w = good e in
     as-packs run (replicate 4590 0) (u .put-packs .last .1 .1 .0) (a .b .now) (c .same .result) (passed run (w .0) (p .before .if2 .left)) (u .put-packs .ensures) (q .if3 .left ∙ rw (p .packs-for .ensures)) (c .same .ensures)
 
 pub gives-spec : {M : Type 1} → statement M

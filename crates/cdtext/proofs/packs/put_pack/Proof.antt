@@ -1,7 +1,7 @@
 use Prim.Native.Nat.{_+_, _-_, _*_}
-use Rattle.cdtext.proofs.packs.Steps.{put-part}
 use native.Mathlib.Omega.{arith}
 use borrow.Author.Needs.{needs}
+use Rattle.cdtext.proofs.packs.Steps.{put-part}
 use Rattle.cdtext.proofs.packs.put_pack.Statement.{statement}
 use Rattle.cdtext.proofs.packs.put_pack.Tie as tie
 

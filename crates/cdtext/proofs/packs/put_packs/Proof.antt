@@ -1,5 +1,5 @@
-use Rattle.cdtext.proofs.packs.Making.{all-put}
 use borrow.Author.Needs.{needs}
+use Rattle.cdtext.proofs.packs.Making.{all-put}
 use Rattle.cdtext.proofs.packs.put_packs.Statement.{statement}
 use Rattle.cdtext.proofs.packs.put_packs.Tie as tie
 

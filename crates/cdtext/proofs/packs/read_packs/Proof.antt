@@ -3,9 +3,9 @@ use mathlib.Core.Bool.{true}
 use native.Mathlib.Omega.{arith}
 use lib.ListN.{length}
 use borrow.Author.Tests.{not-true, not-false}
+use borrow.Author.Needs.{needs}
 use Rattle.cdtext.specs.Packs.{packsSize}
 use Rattle.cdtext.proofs.packs.Runs.{sized, run-is, run-ends, refused, not-size, reads}
-use borrow.Author.Needs.{needs}
 use Rattle.cdtext.proofs.packs.read_packs.Statement.{statement}
 use Rattle.cdtext.proofs.packs.read_packs.Tie as tie
 

@@ -1,8 +1,8 @@
 use mathlib.Core.Path.{ap, sym, _∙_}
 use borrow.Author.Tests.{not-true, not-false}
+use borrow.Author.Needs.{needs}
 use Rattle.mmc.specs.Refusals.{madeOf}
 use Rattle.cdtext.proofs.packs.Runs.{sized, refused, by-packs, filled, only-short}
-use borrow.Author.Needs.{needs}
 use Rattle.cdtext.proofs.packs.read_run.Statement.{statement}
 use Rattle.cdtext.proofs.packs.read_run.Tie as tie
 

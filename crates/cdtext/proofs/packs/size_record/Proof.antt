@@ -1,10 +1,10 @@
 use mathlib.Core.Path.{refl}
-use Rattle.cdtext.specs.Packs.{sizeRecord}
 use borrow.Author.Needs.{needs}
-use Rattle.cdtext.proofs.packs.size_record.Statement.{statement}
-use Rattle.cdtext.proofs.packs.size_record.Tie as tie
+use Rattle.cdtext.specs.Packs.{sizeRecord}
 use Rattle.cdtext.proofs.packs.size_record.Reads as reads
 use Rattle.cdtext.proofs.packs.size_record.Lts as lts
+use Rattle.cdtext.proofs.packs.size_record.Statement.{statement}
+use Rattle.cdtext.proofs.packs.size_record.Tie as tie
 
 -- src/packs.rt:114:5
 array-write-r : tie.Need-array-write-r

@@ -1,9 +1,9 @@
 use mathlib.Core.Path.{_≡_, sym, ap, _∙_}
 use mathlib.Core.Bool.{true}
 use Prim.Native.Nat.{ℕ}
+use lib.Dec.{eqb}
 use borrow.Author.Needs.{needs}
 use borrow.Author.Tests.{eq-eqb, ne-eqb, eqb-true}
-use lib.Dec.{eqb}
 use Rattle.mmc.specs.Bytes.{if}
 use Rattle.mmc.proofs.bytes.Steps.{known, false-true}
 use Rattle.cdtext.specs.Titles.{isCharacter, titleLength}
