@@ -7,6 +7,13 @@
 //
 // An answer: 0, or the refusal's number; in two bytes the number of packs, the length of the run of titles, or the check bytes, and
 // 0 where refused; then the lent buffer, which was filled with A5h beforehand.
+ghost use mathlib.Core.Path.{_≡_};
+ghost use mathlib.Core.List.{[], _∷_, _++_};
+ghost use Prim.Native.Nat.{_≤_};
+ghost use lib.ListN.{length, drop, replicate};
+ghost use Rattle.mmc.specs.Bytes.{bytes16};
+ghost use Rattle.cdtext.specs.Refusals.{numberOf};
+ghost use Rattle.packs.specs.Answers.{answerTo, bytesOf};
 use cdtext::check::check_of;
 use cdtext::packs::make_packs;
 use cdtext::packs::read_packs;
@@ -21,17 +28,23 @@ use mmc::bytes::number16;
 // What stands before the lent buffer in an answer.
 struct Head {
     refusal: u8,
-    amount: usize,
+    amount: u16,
 }
 
-fn refused(r: Refusal) -> Head {
+// The head of a refusal.
+fn refused(r: Refusal) -> Head
+    ensures { λ h. ⌜ bytesOf h ≡ numberOf r ∷ 0 ∷ 0 ∷ [] ⌝ }
+{
     Head {
         refusal: number(r),
         amount: 0,
     }
 }
 
-fn accepted(amount: usize) -> Head {
+// The head where nothing is refused.
+fn accepted(amount: u16) -> Head
+    ensures { λ h. ⌜ bytesOf h ≡ 0 ∷ bytes16 amount ⌝ }
+{
     Head {
         refusal: 0,
         amount: amount,
@@ -39,48 +52,78 @@ fn accepted(amount: usize) -> Head {
 }
 
 // Makes packs from titles.
-fn made(run: &[u8], lent: &mut [u8]) -> Head {
+fn made(run: &[u8], lent: &mut [u8]) -> Head
+    requires { ⌜ length (now lent) ≤ 8192 ⌝ }
+    ensures { λ h. ⌜ bytesOf h ++ now (lent .exit) ≡ answerTo 1 (now (run .entry)) (now (lent .entry)) ⌝ }
+{
     let answer = make_packs(run, lent);
     match answer {
-        Made::Packs(n) => accepted(n),
+        Made::Packs(n) => accepted(n as u16),
         Made::Refused(r) => refused(r),
     }
 }
 
 // Reads titles from packs.
-fn read(packs: &[u8], lent: &mut [u8]) -> Head {
+fn read(packs: &[u8], lent: &mut [u8]) -> Head
+    requires { ⌜ length (now lent) ≤ 8192 ⌝ }
+    ensures { λ h. ⌜ bytesOf h ++ now (lent .exit) ≡ answerTo 2 (now (packs .entry)) (now (lent .entry)) ⌝ }
+{
     let answer = read_packs(packs, lent);
     match answer {
-        Read::Titles(n) => accepted(n),
+        Read::Titles(n) => accepted(n as u16),
         Read::Refused(r) => refused(r),
     }
 }
 
 // Does what the operation asks for.
-fn done(operation: u8, payload: &[u8], lent: &mut [u8]) -> Head {
+fn done(operation: u8, payload: &[u8], lent: &mut [u8]) -> Head
+    requires { ⌜ (1 ≤ operation) × (operation ≤ 3) × (length (now lent) ≤ 8192) ⌝ }
+    ensures { λ h. ⌜ bytesOf h ++ now (lent .exit) ≡ answerTo operation (now (payload .entry)) (now (lent .entry)) ⌝ }
+{
     match operation {
         1 => made(payload, lent),
         2 => read(payload, lent),
-        _ => accepted(check_of(payload) as usize),
+        _ => accepted(check_of(payload)),
     }
 }
 
+// Puts the answer to a request into out, where the lent buffer stands from the fourth byte on.
+fn put_answer(operation: u8, payload: &[u8], out: &mut [u8])
+    requires { ⌜ (1 ≤ operation) × (operation ≤ 3) × (3 ≤ length (now out)) × (length (now out) ≤ 8195) ⌝ }
+    ensures { λ _. ⌜ now (out .exit) ≡ answerTo operation (now (payload .entry)) (drop 3 (now (out .entry))) ⌝ }
+{
+    let end = out.len();
+    let head = done(operation, payload, &mut out[3..end]);
+    out[0] = head.refusal;
+    out[1] = (head.amount / 256) as u8;
+    out[2] = (head.amount % 256) as u8;
+}
+
+// Writes the answer to a request, and tells whether the whole of it was written. The request is named for the contract alone: the
+// bytes are its answer.
+fn send(operation: u8, payload: &[u8], room: usize, bytes: &[u8]) -> bool
+    requires { ⌜ now bytes ≡ answerTo operation (now payload) (replicate room 0xA5) ⌝ }
+{
+    io::write_all(STDOUT_FILENO, bytes)
+}
+
 // Answers a request with a lent buffer of so many bytes, and tells whether the whole answer was written.
-fn answer(operation: u8, payload: &[u8], room: usize) -> bool {
+fn answer(operation: u8, payload: &[u8], room: usize) -> bool
+    requires { ⌜ (1 ≤ operation) × (operation ≤ 3) ⌝ }
+{
     if 8192 < room {
         return false;
     }
     let mut space = [0xA5u8; 8195];
     let end = 3 + room;
-    let head = done(operation, payload, &mut space[3..end]);
-    space[0] = head.refusal;
-    space[1] = (head.amount / 256 % 256) as u8;
-    space[2] = (head.amount % 256) as u8;
-    io::write_all(STDOUT_FILENO, &space[0..end])
+    put_answer(operation, payload, &mut space[0..end]);
+    send(operation, payload, room, &space[0..end])
 }
 
 // Reads a payload as long as its space, and answers the request if all of it came.
-fn serve_in(operation: u8, payload: &mut [u8], room: usize) -> bool {
+fn serve_in(operation: u8, payload: &mut [u8], room: usize) -> bool
+    requires { ⌜ (1 ≤ operation) × (operation ≤ 3) ⌝ }
+{
     let got = io::read_full(STDIN_FILENO, payload);
     if got < payload.len() {
         return false;
@@ -89,7 +132,9 @@ fn serve_in(operation: u8, payload: &mut [u8], room: usize) -> bool {
 }
 
 // Serves a request with a payload of n bytes.
-fn serve_payload(operation: u8, n: usize, room: usize) -> bool {
+fn serve_payload(operation: u8, n: usize, room: usize) -> bool
+    requires { ⌜ (1 ≤ operation) × (operation ≤ 3) ⌝ }
+{
     if 32768 < n {
         return false;
     }
