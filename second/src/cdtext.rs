@@ -1,5 +1,6 @@
 //! CD-TEXT packs (document 02, Ask 4; document 000, "Format of CD-TEXT
-//! packs"), written from these papers alone. Titles stand in one run of bytes,
+//! packs"), written without sight of the program that
+//! it is compared with. Titles stand in one run of bytes,
 //! each ended by a zero byte; the first belongs to track 1.
 //!
 //! The maker looks back over the run from each pack's first byte. The reader

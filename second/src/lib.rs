@@ -1,5 +1,6 @@
 //! An independent second program for document 01 ("What we will build and its
-//! rules") and document 02's CD-TEXT (Ask 4), written from the papers alone.
+//! rules") and document 02's CD-TEXT (Ask 4), written without sight of the
+//! program that it is compared with.
 //!
 //! The rules live in `units`, `refusal`, `blocks`, `times`, `page`, `sheet`,
 //! `commands`, `replies`, `job`, `print` and `cdtext`. The rest serves

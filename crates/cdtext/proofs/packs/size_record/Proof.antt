@@ -1,56 +1,42 @@
 use mathlib.Core.Path.{refl}
 use borrow.Author.Needs.{needs}
 use Rattle.cdtext.specs.Packs.{sizeRecord}
-use Rattle.cdtext.proofs.packs.size_record.Reads as reads
-use Rattle.cdtext.proofs.packs.size_record.Lts as lts
 use Rattle.cdtext.proofs.packs.size_record.Statement.{statement}
 use Rattle.cdtext.proofs.packs.size_record.Tie as tie
 
--- src/packs.rt:114:5
 array-write-r : tie.Need-array-write-r
 array-write-r c = search needs
 
--- src/packs.rt:115:5
 array-write-r-2 : tie.Need-array-write-r-2
 array-write-r-2 c = search needs
 
--- src/packs.rt:116:12
 cast-r : tie.Need-cast-r
 cast-r c = search needs
 
--- src/packs.rt:116:5
 array-write-r-3 : tie.Need-array-write-r-3
 array-write-r-3 c = search needs
 
--- src/packs.rt:117:12
 cast-r-2 : tie.Need-cast-r-2
 cast-r-2 c = search needs
 
--- src/packs.rt:117:5
 array-write-r-4 : tie.Need-array-write-r-4
 array-write-r-4 c = search needs
 
--- src/packs.rt:118:5
 array-write-r-5 : tie.Need-array-write-r-5
 array-write-r-5 c = search needs
 
--- src/packs.rt:119:14
 add-r : tie.Need-add-r
 add-r c = search needs
 
--- src/packs.rt:119:13
 cast-r-3 : tie.Need-cast-r-3
 cast-r-3 c = search needs
 
--- src/packs.rt:119:5
 array-write-r-6 : tie.Need-array-write-r-6
 array-write-r-6 c = search needs
 
--- src/packs.rt:120:5
 array-write-r-7 : tie.Need-array-write-r-7
 array-write-r-7 c = search needs
 
--- src/packs.rt:109:1
 returns : tie.Need-returns
 unfolding sizeRecord
 returns c = refl
