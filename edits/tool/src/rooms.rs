@@ -1,0 +1,141 @@
+//! Copies of the repository, one for each core, in which edited crates are checked in the incremental loop.
+
+use crate::edit::Texts;
+use crate::judge::{verdict, Verdict};
+use std::fs;
+use std::path::{Path, PathBuf};
+use std::process::Command;
+use std::sync::Mutex;
+use std::time::Instant;
+
+/// A check that takes longer than this many seconds is broken off.
+const LONGEST: &str = "600";
+
+pub struct Rooms {
+    top: PathBuf,
+    rooms: Vec<PathBuf>,
+}
+
+impl Drop for Rooms {
+    fn drop(&mut self) {
+        let _ = fs::remove_dir_all(&self.top);
+    }
+}
+
+fn run(command: &mut Command) -> Result<(), String> {
+    let done = command.output().map_err(|e| format!("{command:?}: {e}"))?;
+    if !done.status.success() {
+        return Err(format!("{command:?}: {}", String::from_utf8_lossy(&done.stderr)));
+    }
+    Ok(())
+}
+
+fn copy(from: &Path, to: &Path) -> Result<(), String> {
+    fs::create_dir_all(to.parent().unwrap_or(to)).map_err(|e| e.to_string())?;
+    run(Command::new("cp").arg("-R").arg(from).arg(to))
+}
+
+/// `rt dev` in a room: its exit status and all that it said.
+fn dev(room: &Path, of: &str) -> (i32, String) {
+    match Command::new("timeout").args([LONGEST, "rt", "dev", of]).current_dir(room).output() {
+        Ok(done) => {
+            let said = String::from_utf8_lossy(&done.stdout) + String::from_utf8_lossy(&done.stderr);
+            (done.status.code().unwrap_or(2), said.to_string())
+        }
+        Err(e) => (2, e.to_string()),
+    }
+}
+
+impl Rooms {
+    /// So many copies of what the prover reads, with what is proved already.
+    pub fn new(root: &Path, crates: &[String], count: usize) -> Result<Rooms, String> {
+        let top = std::env::temp_dir().join(format!("edits-{}", std::process::id()));
+        let rooms: Vec<PathBuf> = (0..count).map(|i| top.join(i.to_string())).collect();
+        let made = Rooms { top, rooms };
+        for room in &made.rooms {
+            copy(&root.join("crates.txt"), &room.join("crates.txt"))?;
+            for of in crates {
+                for part in ["src", "specs", "proofs"] {
+                    let from = root.join("crates").join(of).join(part);
+                    if from.is_dir() {
+                        copy(&from, &room.join("crates").join(of).join(part))?;
+                    }
+                }
+            }
+            for part in ["rlib", "stamp", "inc"] {
+                let from = root.join("target").join(part);
+                if from.is_dir() {
+                    copy(&from, &room.join("target").join(part))?;
+                }
+            }
+        }
+        Ok(made)
+    }
+
+    /// Checks crates as they stand, one room for each, and gives what that taught the prover to all rooms.
+    pub fn prove(&self, crates: &[String]) -> Result<(), String> {
+        let proved: Mutex<Vec<(String, usize)>> = Mutex::new(Vec::new());
+        let faults: Mutex<Vec<String>> = Mutex::new(Vec::new());
+        self.each(crates, |room, at, of| {
+            let began = Instant::now();
+            let (status, said) = dev(room, of);
+            match verdict(status, &said, "") {
+                Verdict::Survives => {
+                    println!("{of} is proved as it stands ({:.0} s)", began.elapsed().as_secs_f64());
+                    proved.lock().unwrap().push((of.clone(), at));
+                }
+                _ => faults.lock().unwrap().push(format!("{of} is not proved as it stands:\n{}", tail(&said))),
+            }
+        });
+        if let Some(fault) = faults.lock().unwrap().first() {
+            return Err(fault.clone());
+        }
+        for (of, at) in proved.lock().unwrap().iter() {
+            let from = self.rooms[*at].join("target/inc").join(of);
+            for room in self.rooms.iter().filter(|r| **r != self.rooms[*at]) {
+                let to = room.join("target/inc").join(of);
+                let _ = fs::remove_dir_all(&to);
+                copy(&from, &to)?;
+            }
+        }
+        Ok(())
+    }
+
+    /// Takes each of the tasks once, in a room that is free.
+    pub fn each<T: Sync>(&self, tasks: &[T], work: impl Fn(&Path, usize, &T) + Sync) {
+        let left = Mutex::new(tasks.iter());
+        self.until_none(|| left.lock().unwrap().next(), |room, at, task| work(room, at, task));
+    }
+
+    /// In each room one task after another, until there is none.
+    pub fn until_none<T>(&self, next: impl Fn() -> Option<T> + Sync, work: impl Fn(&Path, usize, T) + Sync) {
+        std::thread::scope(|scope| {
+            for (at, room) in self.rooms.iter().enumerate() {
+                let (next, work) = (&next, &work);
+                scope.spawn(move || {
+                    while let Some(task) = next() {
+                        work(room, at, task);
+                    }
+                });
+            }
+        });
+    }
+}
+
+/// The verdict on a crate with some of its files changed, which are put back.
+pub fn tried(root: &Path, room: &Path, of: &str, texts: &Texts) -> Verdict {
+    let folder = room.join("crates").join(of);
+    for (file, text) in texts {
+        fs::write(folder.join(file), text).expect("a room can be written");
+    }
+    let (status, said) = dev(room, of);
+    for file in texts.keys() {
+        fs::copy(root.join("crates").join(of).join(file), folder.join(file)).expect("a room can be written");
+    }
+    verdict(status, &said, &folder.to_string_lossy())
+}
+
+fn tail(said: &str) -> String {
+    let lines: Vec<&str> = said.lines().collect();
+    lines[lines.len().saturating_sub(20)..].join("\n")
+}
