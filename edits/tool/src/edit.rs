@@ -1,12 +1,9 @@
 //! An edit file: replacements in the files of a crate that the prover must refuse, in the form of `rt must-fail`; and which laws refuse
 //! it, where it is one that the code's equations let pass.
 
-use std::collections::BTreeMap;
+use crate::changes::{changes, Changes, Texts};
 use std::fs;
 use std::path::Path;
-
-/// Files of a crate, by their path in it, with what they are to hold.
-pub type Texts = BTreeMap<String, String>;
 
 /// `law: RECORD.FIELD`
 #[derive(Clone, Debug, PartialEq)]
@@ -22,7 +19,7 @@ pub struct Edit {
     pub laws: Vec<Law>,
     /// `fails: FILE [DECLARATION ..]`: where alone a proof may fail by itself
     pub fails: Vec<(String, Vec<String>)>,
-    pub texts: Texts,
+    pub changes: Changes,
 }
 
 /// The edit in a file's text, applied to the crate in `folder`. Any line that the form doesn't have is an error.
@@ -78,7 +75,7 @@ pub fn parse(of: &str, label: &str, text: &str, folder: &Path) -> Result<Edit, S
     if laws.is_empty() != fails.is_empty() {
         return Err("'law:' goes with 'fails:'".to_string());
     }
-    Ok(Edit { of: of.to_string(), label: label.to_string(), laws, fails, texts })
+    Ok(Edit { of: of.to_string(), label: label.to_string(), laws, fails, changes: changes(folder, &texts) })
 }
 
 /// Puts `new` for `old`, which stands once in the text; behind `after`, which stands once, for the first one there.
@@ -135,7 +132,8 @@ mod tests {
         let at = folder("pairs");
         let text = "# why\nfile: src/lib.rt\nold: a = 1;\nnew: a = 2;\nold: b = 1\nnew: b = 3\n";
         let edit = parse("c", "l", text, &at).unwrap();
-        assert_eq!(edit.texts["src/lib.rt"], "a = 2;\nb = 3;\n");
+        assert_eq!(edit.changes[&("src/lib.rt".to_string(), 0)], "a = 2;");
+        assert_eq!(edit.changes[&("src/lib.rt".to_string(), 1)], "b = 3;");
         assert!(edit.laws.is_empty());
     }
 
@@ -143,7 +141,7 @@ mod tests {
     fn behind_a_place() {
         let at = folder("behind");
         let edit = parse("c", "l", "file: src/lib.rt\nafter: a = 1;\nold: = 1;\nnew: = 2;\n", &at).unwrap();
-        assert_eq!(edit.texts["src/lib.rt"], "a = 1;\nb = 2;\n");
+        assert_eq!(edit.changes, Changes::from([(("src/lib.rt".to_string(), 1), "b = 2;".to_string())]));
         assert!(parse("c", "l", "file: src/lib.rt\nafter: b\nold: a\nnew: c\n", &at).is_err());
     }
 

@@ -1,9 +1,10 @@
 //! What the prover said of an edited crate.
 
-/// A proof that fails, in a file of the crate.
+/// What fails at a place in a file of the crate: a proof, by its declaration, or where it doesn't compile the code.
 #[derive(Clone, Debug, PartialEq)]
 pub struct Failure {
     pub file: String,
+    pub at: usize,
     pub declaration: String,
     pub line: String,
 }
@@ -29,32 +30,36 @@ pub fn verdict(status: i32, said: &str, folder: &str) -> Verdict {
             false => Verdict::Unclear(last(said)),
         };
     }
+    let failures = failures(said, folder);
     if !said.contains("\nlogic=not-proved") {
-        return match said.lines().find(|l| l.contains(": error[")) {
-            Some(line) => Verdict::NotBuilt(line.to_string()),
+        return match failures.first() {
+            Some(f) => Verdict::NotBuilt(f.line.clone()),
             None => Verdict::Unclear(last(said)),
         };
     }
-    let failures = failures(said, folder);
-    let functions = functions(said);
-    if let Some(f) = failures.iter().find(|f| f.file.starts_with("specs/")) {
-        return Verdict::NotBuilt(f.line.clone());
-    }
-    if let Some(f) = failures.iter().find(|f| misfit(&f.line)) {
-        return Verdict::Shape(f.line.clone());
-    }
     match failures.is_empty() {
         true => Verdict::Unclear(last(said)),
-        false => Verdict::Refused { roots: failures, functions },
+        false => refused(failures, functions(said)),
     }
+}
+
+/// The verdict by the proofs that fail by themselves.
+pub fn refused(roots: Vec<Failure>, functions: Vec<String>) -> Verdict {
+    if let Some(f) = roots.iter().find(|f| f.file.starts_with("specs/")) {
+        return Verdict::NotBuilt(f.line.clone());
+    }
+    if let Some(f) = roots.iter().find(|f| misfit(&f.line)) {
+        return Verdict::Shape(f.line.clone());
+    }
+    Verdict::Refused { roots, functions }
 }
 
 fn last(said: &str) -> String {
     said.lines().last().unwrap_or("nothing was said").to_string()
 }
 
-/// The proofs that fail by themselves: not those that only cite one that failed.
-fn failures(said: &str, folder: &str) -> Vec<Failure> {
+/// What fails by itself: no proof that only cites one that failed.
+pub fn failures(said: &str, folder: &str) -> Vec<Failure> {
     said.lines().filter_map(|line| failure(line, folder)).collect()
 }
 
@@ -64,6 +69,9 @@ fn failure(line: &str, folder: &str) -> Option<Failure> {
         let (place, fact) = rest.split_once(": ")?;
         return fact.starts_with("it is not proved that").then(|| at(place, "", line, folder));
     }
+    if let Some((place, _)) = line.split_once(": error[") {
+        return Some(at(place, "", line, folder));
+    }
     let (place, message) = line.split_once(": error: ")?;
     if message.contains(" was not admitted (") {
         return None;
@@ -72,10 +80,13 @@ fn failure(line: &str, folder: &str) -> Option<Failure> {
     Some(at(place, declaration, line, folder))
 }
 
+/// FILE:LINE:COLUMN
 fn at(place: &str, declaration: &str, line: &str, folder: &str) -> Failure {
     let path = place.strip_prefix(folder).unwrap_or(place).trim_start_matches('/');
-    let file = path.split(':').next().unwrap_or(path).to_string();
-    Failure { file, declaration: declaration.to_string(), line: line.replace(folder, "").chars().take(300).collect() }
+    let mut parts = path.split(':');
+    let file = parts.next().unwrap_or_default().to_string();
+    let at = parts.next().and_then(|n| n.parse().ok()).unwrap_or(0);
+    Failure { file, at, declaration: declaration.to_string(), line: line.replace(folder, "").chars().take(300).collect() }
 }
 
 /// The proof file names a place of the code that is no longer there, or hands over a proof for another one.

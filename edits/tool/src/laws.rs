@@ -205,7 +205,8 @@ fn listed(list: &str) -> (Vec<Listed>, Vec<String>) {
 #[cfg(test)]
 mod tests {
     use super::*;
-    use crate::edit::{Law, Texts};
+    use crate::changes::Changes;
+    use crate::edit::Law;
 
     const SPECS: &str = "-- a comment\npub record Makes (o : Order) : Type 0 where\n  pub filled : Fills o\n  -- why\n  pub back :\n    (b : A) → b\n\nf = 1\n  pub no : law\n";
 
@@ -225,7 +226,7 @@ mod tests {
 
     fn edit() -> Edit {
         let fails = vec![("proofs/Laws.antt".into(), vec!["back".into()]), ("proofs/Bench.antt".into(), vec![])];
-        Edit { of: "c".into(), label: "l".into(), laws: vec![Law { record: "Makes".into(), field: "back".into() }], fails, texts: Texts::new() }
+        Edit { of: "c".into(), label: "l".into(), laws: vec![Law { record: "Makes".into(), field: "back".into() }], fails, changes: Changes::new() }
     }
 
     const LIST: &str = "# a comment\nc Makes.filled  the equation\nc Makes.back\n";
@@ -245,7 +246,7 @@ mod tests {
 
     #[test]
     fn the_law_alone() {
-        let failure = |(file, declaration): (&str, &str)| Failure { file: file.into(), declaration: declaration.into(), line: String::new() };
+        let failure = |(file, declaration): (&str, &str)| Failure { file: file.into(), at: 1, declaration: declaration.into(), line: String::new() };
         let alone = |roots: &[(&str, &str)], functions: &[&str]| {
             let roots: Vec<Failure> = roots.iter().copied().map(failure).collect();
             laws().alone(&edit(), &roots, &functions.iter().map(|f| f.to_string()).collect::<Vec<_>>()).is_ok()

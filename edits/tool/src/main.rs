@@ -1,16 +1,18 @@
 //! Tries wrong programs against the prover: the edits in edits/CRATE, and mutants that the tool makes. See edits/README.md.
 
+mod changes;
 mod edit;
 mod judge;
 mod laws;
 mod mutants;
 mod rooms;
 
+use changes::{body, Body, Changes};
 use edit::Edit;
 use judge::Verdict;
 use mutants::Mutant;
 use rooms::{tried, Rooms};
-use std::collections::BTreeMap;
+use std::collections::{BTreeMap, VecDeque};
 use std::fs;
 use std::path::{Path, PathBuf};
 use std::process::ExitCode;
@@ -21,6 +23,9 @@ use std::time::Instant;
 /// The gate's sample of mutants: so many for each crate, from this seed.
 const SAMPLE: usize = 10;
 const SEED: u64 = 20261116;
+
+/// So many changes inside different functions are checked together.
+const TOGETHER: usize = 6;
 
 const USAGE: &str = "edits/try                       every edit, and a fixed sample of mutants of each crate: the gate's part
 edits/try edits [NAME..] [--roots]
@@ -145,7 +150,8 @@ fn work(root: &Path, wanted: &Wanted, tally: &Tally) -> Result<(), String> {
     rooms.prove(&used)?;
     if wanted.edits {
         let began = Instant::now();
-        rooms.each(&edits, |room, _, edit| try_edit(root, room, edit, &laws, wanted.roots, tally));
+        let groups = groups(root, &edits, if wanted.roots { 1 } else { TOGETHER });
+        rooms.each(&groups, |room, _, group| try_edits(root, room, group, &laws, wanted.roots, tally));
         println!("{} edits tried ({:.0} s)", edits.len(), began.elapsed().as_secs_f64());
     }
     if wanted.mutants {
@@ -174,11 +180,51 @@ fn unpromised(root: &Path, of: &str) -> bool {
     !root.join("crates").join(of).join("specs").is_dir()
 }
 
-fn try_edit(root: &Path, room: &Path, edit: &Edit, laws: &laws::Laws, show: bool, tally: &Tally) {
+/// Whether a change of a crate can join others: it lies in a function's body, and none of theirs does.
+fn joins(root: &Path, of: &str, changes: &Changes, others: &mut Vec<Body>) -> bool {
+    let Some(body) = body(&root.join("crates").join(of), changes) else { return false };
+    let new = !others.contains(&body);
+    if new {
+        others.push(body);
+    }
+    new
+}
+
+/// The edits, at most so many of the same crate together. One that is for a law, or not inside a function's body, stands alone.
+fn groups<'a>(root: &Path, edits: &'a [Edit], most: usize) -> Vec<Vec<&'a Edit>> {
+    let mut groups: Vec<(Vec<&Edit>, Vec<Body>)> = Vec::new();
+    for edit in edits {
+        let open = groups.iter_mut().filter(|(group, _)| group[0].of == edit.of && group.len() < most);
+        let joined = edit.laws.is_empty() && open.filter(|(_, bodies)| !bodies.is_empty()).any(|(group, bodies)| {
+            let joins = joins(root, &edit.of, &edit.changes, bodies);
+            if joins {
+                group.push(edit);
+            }
+            joins
+        });
+        if !joined {
+            let mut bodies = Vec::new();
+            if edit.laws.is_empty() {
+                joins(root, &edit.of, &edit.changes, &mut bodies);
+            }
+            groups.push((vec![edit], bodies));
+        }
+    }
+    groups.into_iter().map(|(group, _)| group).collect()
+}
+
+fn try_edits(root: &Path, room: &Path, group: &[&Edit], laws: &laws::Laws, show: bool, tally: &Tally) {
     let began = Instant::now();
+    let changes: Vec<&Changes> = group.iter().map(|e| &e.changes).collect();
+    let verdicts = tried(root, room, &group[0].of, &changes);
+    let took = began.elapsed().as_secs_f64() / group.len() as f64;
+    for (edit, verdict) in group.iter().zip(verdicts) {
+        judge_edit(edit, verdict, laws, show, took, tally);
+    }
+}
+
+fn judge_edit(edit: &Edit, verdict: Verdict, laws: &laws::Laws, show: bool, took: f64, tally: &Tally) {
     let name = format!("{}/{}", edit.of, edit.label);
-    let verdict = tried(root, room, &edit.of, &edit.texts);
-    let took = began.elapsed().as_secs_f64();
     if let (true, Verdict::Refused { roots, functions }) = (show, &verdict) {
         roots.iter().for_each(|f| println!("{name}: {} {}: {}", f.file, f.declaration, f.line));
         functions.iter().for_each(|f| println!("{name}: fn {f} is not proved"));
@@ -200,30 +246,46 @@ fn try_edit(root: &Path, room: &Path, edit: &Edit, laws: &laws::Laws, show: bool
 
 /// Mutants of each crate, until so many were refused for a fact or survived; those that don't compile or don't fit say nothing.
 fn try_mutants(root: &Path, rooms: &Rooms, mutants: BTreeMap<String, Vec<Mutant>>, wanted: &Wanted, tally: &Tally) {
-    let left: BTreeMap<String, _> = mutants.into_iter().map(|(of, all)| (of, (wanted.count, all.into_iter()))).collect();
+    let left: BTreeMap<String, _> = mutants.into_iter().map(|(of, all)| (of, (wanted.count, VecDeque::from(all)))).collect();
     let silent: BTreeMap<String, AtomicUsize> = left.keys().map(|of| (of.clone(), AtomicUsize::new(0))).collect();
     let left = Mutex::new(left);
     let next = || {
         let mut left = left.lock().unwrap();
-        let (places, all) = left.values_mut().find(|(places, all)| *places > 0 && all.len() > 0)?;
-        *places -= 1;
-        all.next()
+        let (places, all) = left.values_mut().find(|(places, all)| *places > 0 && !all.is_empty())?;
+        let group = drawn_together(root, all, TOGETHER.min(*places));
+        *places -= group.len();
+        Some(group)
     };
-    rooms.until_none(next, |room, _, mutant| {
+    rooms.until_none(next, |room, _, group| {
         let began = Instant::now();
-        let verdict = tried(root, room, &mutant.of, &mutant.texts(root));
-        let took = began.elapsed().as_secs_f64();
-        match verdict {
-            Verdict::Refused { .. } => tally.pass(&format!("mutant refused ({took:.1} s): {}", mutant.label())),
-            Verdict::Survives => tally.fail(&format!("mutant SURVIVES: {}", mutant.label())),
-            Verdict::Unclear(line) => tally.fail(&format!("mutant: the prover could not tell: {}: {line}", mutant.label())),
-            Verdict::NotBuilt(_) | Verdict::Shape(_) => {
-                silent[&mutant.of].fetch_add(1, Ordering::Relaxed);
-                left.lock().unwrap().get_mut(&mutant.of).expect("its crate").0 += 1;
+        let changes: Vec<Changes> = group.iter().map(Mutant::changes).collect();
+        let verdicts = tried(root, room, &group[0].of, &changes.iter().collect::<Vec<_>>());
+        let took = began.elapsed().as_secs_f64() / group.len() as f64;
+        for (mutant, verdict) in group.iter().zip(verdicts) {
+            match verdict {
+                Verdict::Refused { .. } => tally.pass(&format!("mutant refused ({took:.1} s): {}", mutant.label())),
+                Verdict::Survives => tally.fail(&format!("mutant SURVIVES: {}", mutant.label())),
+                Verdict::Unclear(line) => tally.fail(&format!("mutant: the prover could not tell: {}: {line}", mutant.label())),
+                Verdict::NotBuilt(_) | Verdict::Shape(_) => {
+                    silent[&mutant.of].fetch_add(1, Ordering::Relaxed);
+                    left.lock().unwrap().get_mut(&mutant.of).expect("its crate").0 += 1;
+                }
             }
         }
     });
     for (of, n) in silent {
         println!("{of}: {} more did not compile, or were refused for their shape only", n.into_inner());
     }
+}
+
+/// The next mutant, and those right behind it that can be checked together with it, at most so many.
+fn drawn_together(root: &Path, all: &mut VecDeque<Mutant>, most: usize) -> Vec<Mutant> {
+    let first = all.pop_front().expect("a mutant");
+    let mut bodies = Vec::new();
+    let alone = !joins(root, &first.of, &first.changes(), &mut bodies);
+    let mut group = vec![first];
+    while !alone && group.len() < most && all.front().is_some_and(|m| joins(root, &m.of, &m.changes(), &mut bodies)) {
+        group.extend(all.pop_front());
+    }
+    group
 }

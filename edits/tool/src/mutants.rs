@@ -1,6 +1,6 @@
 //! Wrong programs made by the tool: one number, comparison, operator or truth value of the code changed.
 
-use crate::edit::Texts;
+use crate::changes::Changes;
 use std::fs;
 use std::path::Path;
 
@@ -18,12 +18,8 @@ impl Mutant {
         format!("{} {}:{}: {}  =>  {}", self.of, self.file, self.line + 1, self.old.trim(), self.new.trim())
     }
 
-    /// The mutated file.
-    pub fn texts(&self, root: &Path) -> Texts {
-        let text = fs::read_to_string(root.join("crates").join(&self.of).join(&self.file)).unwrap_or_default();
-        let mut lines: Vec<&str> = text.split('\n').collect();
-        lines[self.line] = &self.new;
-        Texts::from([(self.file.clone(), lines.join("\n"))])
+    pub fn changes(&self) -> Changes {
+        Changes::from([((self.file.clone(), self.line), self.new.clone())])
     }
 }
 

@@ -1,7 +1,7 @@
 //! Copies of the repository, one for each core, in which edited crates are checked in the incremental loop.
 
-use crate::edit::Texts;
-use crate::judge::{verdict, Verdict};
+use crate::changes::{body, merged, Body, Changes, Texts};
+use crate::judge::{failures, refused, verdict, Failure, Verdict};
 use std::fs;
 use std::path::{Path, PathBuf};
 use std::process::Command;
@@ -122,17 +122,58 @@ impl Rooms {
     }
 }
 
-/// The verdict on a crate with some of its files changed, which are put back.
-pub fn tried(root: &Path, room: &Path, of: &str, texts: &Texts) -> Verdict {
+/// What `rt dev` says of a crate with some of its files changed, which are put back: its exit status, and all that it said.
+fn said_of(root: &Path, room: &Path, of: &str, texts: &Texts) -> (i32, String) {
     let folder = room.join("crates").join(of);
     for (file, text) in texts {
         fs::write(folder.join(file), text).expect("a room can be written");
     }
-    let (status, said) = dev(room, of);
+    let said = dev(room, of);
     for file in texts.keys() {
         fs::copy(root.join("crates").join(of).join(file), folder.join(file)).expect("a room can be written");
     }
-    verdict(status, &said, &folder.to_string_lossy())
+    said
+}
+
+/// The verdict on each of some changes of a crate. Changes inside different functions are checked together: a function is proved from
+/// its own body and the contracts of those that it calls, so what fails in its own proof fails alone too. Whatever that does not
+/// settle is checked alone.
+pub fn tried(root: &Path, room: &Path, of: &str, changes: &[&Changes]) -> Vec<Verdict> {
+    let folder = room.join("crates").join(of).to_string_lossy().to_string();
+    let source = root.join("crates").join(of);
+    let Some(texts) = merged(&source, changes) else { return alone(root, room, of, changes) };
+    let (status, said) = said_of(root, room, of, &texts);
+    let whole = verdict(status, &said, &folder);
+    let bodies: Vec<Option<Body>> = changes.iter().map(|c| body(&source, c)).collect();
+    match whole {
+        whole if changes.len() == 1 => vec![whole],
+        Verdict::Survives => changes.iter().map(|_| Verdict::Survives).collect(),
+        Verdict::Unclear(_) => alone(root, room, of, changes),
+        _ => {
+            let failures = failures(&said, &folder);
+            let built = said.contains("\nlogic=not-proved");
+            let settled: Vec<Option<Verdict>> = bodies.iter().map(|body| settled(body.as_ref()?, &failures, built)).collect();
+            let open: Vec<&Changes> = changes.iter().zip(&settled).filter(|(_, v)| v.is_none()).map(|(c, _)| *c).collect();
+            let again = if open.len() < changes.len() { tried_or_none(root, room, of, &open) } else { alone(root, room, of, &open) };
+            let mut again = again.into_iter();
+            settled.into_iter().map(|v| v.unwrap_or_else(|| again.next().expect("a verdict"))).collect()
+        }
+    }
+}
+
+fn tried_or_none(root: &Path, room: &Path, of: &str, changes: &[&Changes]) -> Vec<Verdict> {
+    if changes.is_empty() { vec![] } else { tried(root, room, of, changes) }
+}
+
+fn alone(root: &Path, room: &Path, of: &str, changes: &[&Changes]) -> Vec<Verdict> {
+    changes.iter().flat_map(|c| tried(root, room, of, &[c])).collect()
+}
+
+/// What a check of several changes says of the one in a function's body, if it says something.
+fn settled(body: &Body, failures: &[Failure], built: bool) -> Option<Verdict> {
+    let own: Vec<Failure> = failures.iter().filter(|f| body.has(f)).cloned().collect();
+    let first = own.first()?.line.clone();
+    Some(if built { refused(own, vec![]) } else { Verdict::NotBuilt(first) })
 }
 
 fn tail(said: &str) -> String {
