@@ -63,8 +63,18 @@ impl Body {
 pub fn body(source: &Path, changes: &Changes) -> Option<Body> {
     let (file, at) = changes.keys().next()?;
     let text = fs::read_to_string(source.join(file)).ok()?;
-    let body = body_at(file, &text, *at)?;
-    changes.keys().all(|(f, a)| body_at(f, &text, *a).as_ref() == Some(&body) && f == file).then_some(body)
+    let body = owner(file, &text, *at)?;
+    changes.keys().all(|(f, a)| f == file && owner(f, &text, *a).as_ref() == Some(&body)).then_some(body)
+}
+
+/// The function whose body a line belongs to; that of a private constant to the one function that names it.
+fn owner(file: &str, text: &str, at: usize) -> Option<Body> {
+    let lines: Vec<&str> = text.split('\n').collect();
+    let Some(constant) = lines[at].strip_prefix("const ").and_then(|l| l.split(':').next()) else { return body_at(file, text, at) };
+    let part = |c: char| c.is_alphanumeric() || c == '_';
+    let mut users = (0..lines.len()).filter(|i| *i != at && lines[*i].split(|c: char| !part(c)).any(|w| w == constant));
+    let body = body_at(file, text, users.next()?)?;
+    users.all(|i| body_at(file, text, i).as_ref() == Some(&body)).then_some(body)
 }
 
 fn name(line: &str) -> Option<&str> {
@@ -105,6 +115,14 @@ mod tests {
         assert_eq!(body_at("src/lib.rt", TEXT, 5).unwrap().proof, "proofs/f/Proof.antt");
         assert_eq!(body_at("src/m.rt", TEXT, 10).unwrap().proof, "proofs/m/S/g/Proof.antt");
         assert_eq!(body_at("specs/M.antt", TEXT, 5), None);
+    }
+
+    #[test]
+    fn constants() {
+        let used = TEXT.replace("a + 1", "a + A");
+        assert_eq!(owner("src/m.rt", TEXT, 0), None);
+        assert_eq!(owner("src/m.rt", &used, 0), body_at("src/m.rt", &used, 5));
+        assert_eq!(owner("src/m.rt", &used.replace("        2", "        A"), 0), None);
     }
 
     #[test]

@@ -25,7 +25,7 @@ const SAMPLE: usize = 10;
 const SEED: u64 = 20261116;
 
 /// So many changes inside different functions are checked together.
-const TOGETHER: usize = 6;
+const TOGETHER: usize = 12;
 
 const USAGE: &str = "edits/try                       every edit, and a fixed sample of mutants of each crate: the gate's part
 edits/try edits [NAME..] [--roots]
@@ -33,7 +33,8 @@ edits/try edits [NAME..] [--roots]
 edits/try mutants [CRATE..] [--count N] [--seed S] [--file PART] [--specs] [--list]
                                 N mutants of each crate, from the seed S, of the files whose name has PART; with --specs of the
                                 definitions; --list only prints them
-edits/try laws                  only whether each law of a contract is listed and has its edit";
+edits/try laws                  only whether each law of a contract is listed and has its edit
+edits/try warm FOLDER           checks the crates that need no other in a new folder; WARM=FOLDER edits/try .. goes on from there";
 
 struct Wanted {
     edits: bool,
@@ -104,6 +105,13 @@ fn main() -> ExitCode {
         return ExitCode::from(2);
     };
     let root = std::env::current_dir().expect("a folder to work in");
+    if let [word, folder] = &words[..] {
+        if word == "warm" {
+            let done = Rooms::warm(&root, Path::new(folder), &crates_in(&root));
+            done.iter().for_each(|fault| eprintln!("{fault}"));
+            return ExitCode::from(u8::from(!done.is_empty()));
+        }
+    }
     let tally = Tally::default();
     if let Err(why) = work(&root, &wanted, &tally) {
         tally.fail(&why);

@@ -2,6 +2,7 @@
 
 use crate::changes::{body, merged, Body, Changes, Texts};
 use crate::judge::{failures, refused, verdict, Failure, Verdict};
+use std::collections::BTreeMap;
 use std::fs;
 use std::path::{Path, PathBuf};
 use std::process::Command;
@@ -35,6 +36,20 @@ fn copy(from: &Path, to: &Path) -> Result<(), String> {
     run(Command::new("cp").arg("-R").arg(from).arg(to))
 }
 
+/// What the prover reads of the repository's own crates.
+fn copy_sources(root: &Path, crates: &[String], room: &Path) -> Result<(), String> {
+    copy(&root.join("crates.txt"), &room.join("crates.txt"))?;
+    for of in crates {
+        for part in ["src", "specs", "proofs"] {
+            let from = root.join("crates").join(of).join(part);
+            if from.is_dir() {
+                copy(&from, &room.join("crates").join(of).join(part))?;
+            }
+        }
+    }
+    Ok(())
+}
+
 /// `rt dev` in a room: its exit status and all that it said.
 fn dev(room: &Path, of: &str) -> (i32, String) {
     match Command::new("timeout").args([LONGEST, "rt", "dev", of]).current_dir(room).output() {
@@ -52,24 +67,30 @@ impl Rooms {
         let top = std::env::temp_dir().join(format!("edits-{}", std::process::id()));
         let rooms: Vec<PathBuf> = (0..count).map(|i| top.join(i.to_string())).collect();
         let made = Rooms { top, rooms };
+        let warm = std::env::var_os("WARM").map(PathBuf::from);
         for room in &made.rooms {
-            copy(&root.join("crates.txt"), &room.join("crates.txt"))?;
-            for of in crates {
-                for part in ["src", "specs", "proofs"] {
-                    let from = root.join("crates").join(of).join(part);
-                    if from.is_dir() {
-                        copy(&from, &room.join("crates").join(of).join(part))?;
-                    }
-                }
-            }
-            for part in ["rlib", "stamp", "inc"] {
-                let from = root.join("target").join(part);
+            copy_sources(root, crates, room)?;
+            for (from, part) in ["rlib", "stamp", "inc"].map(|part| (root, part)).into_iter().chain(warm.as_deref().map(|w| (w, "inc"))) {
+                let from = from.join("target").join(part);
                 if from.is_dir() {
-                    copy(&from, &room.join("target").join(part))?;
+                    let to = room.join("target").join(part);
+                    let _ = fs::remove_dir_all(&to);
+                    copy(&from, &to)?;
                 }
             }
         }
         Ok(made)
+    }
+
+    /// Checks the crates that need no other of the repository in a folder that stays, for a later run; and what went wrong.
+    pub fn warm(root: &Path, folder: &Path, crates: &BTreeMap<String, Vec<String>>) -> Vec<String> {
+        let names: Vec<String> = crates.keys().cloned().collect();
+        if let Err(fault) = copy_sources(root, &names, folder) {
+            return vec![fault];
+        }
+        let first = crates.iter().filter(|(_, deps)| !deps.iter().any(|d| crates.contains_key(d)));
+        let said = first.map(|(of, _)| dev(folder, of));
+        said.filter(|(status, _)| *status != 0).map(|(_, said)| tail(&said)).collect()
     }
 
     /// Checks crates as they stand, one room for each, and gives what that taught the prover to all rooms.
