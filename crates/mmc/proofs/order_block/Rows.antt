@@ -67,17 +67,19 @@ rows-more d zero (t ∷ ts) h = refl
 rows-more d (suc i) (t ∷ ts) h = ap (λ (r : List ℕ). row t ++ r) (rows-more d i ts (omega arith))
 
 -- a turn of the loop that puts the rows
-pub rows-next : (e : Track) (i : ℕ) (ts : List Track) (d : List ℕ) → i < length ts → 4 ≤ length d
-    → putAt (take 4 d ++ rows (take i ts) ++ drop (4 + 5 * i) d) (4 + 5 * i) (row (getD ts i e))
-    ≡ take 4 d ++ rows (take (i + 1) ts) ++ drop (4 + 5 * (i + 1)) d
+pub rows-next : (e : Track) (i : ℕ) (ts : List Track) (d : List ℕ) → i < length ts → 4 ≤ length d → {out out' s : List ℕ} → s ≡ row (getD ts i e)
+    → out ≡ take 4 d ++ rows (take i ts) ++ drop (4 + 5 * i) d → out' ≡ putAt out (4 + 5 * i) s
+    → out' ≡ take 4 d ++ rows (take (i + 1) ts) ++ drop (4 + 5 * (i + 1)) d
 unfolding row bytes32
-rows-next e i ts d h hd =
+rows-next e i ts d h hd es eo ep =
     let done : List ℕ = take 4 d ++ rows (take i ts) in
     let tk : length (take i ts) ≡ i = length-take-le i ts (omega arith) in
     let n : length done ≡ 4 + 5 * i = omega (arith, length-append (take 4 d) (rows (take i ts)), length-take-le 4 d hd, rows-length (take i ts)) in
     let q : 4 + 5 * (i + 1) ≡ 4 + 5 * i + 5 = omega arith in
+    rw (ep, eo, es) (
     put-next done d (row (getD ts i e)) (4 + 5 * i) n
     ∙ rw (q, add-one, rows-more e i ts h, ← append-assoc (take 4 d) (rows (take i ts)))
+    )
 
 pub rows-start : (ts : List Track) (d : List ℕ) → d ≡ take 4 d ++ rows (take 0 ts) ++ drop (4 + 5 * 0) d
 unfolding rows
@@ -99,7 +101,7 @@ module _ (o : Order) (h : length (o .tracks) ≡ 99) where
   body-length = omega (arith, rows-495, length-append (rows (o .tracks)) (replicate 11 0))
 
   -- head, rows and zeros, put one after the other
-  pub body-put : (d : List ℕ)
+  body-put : (d : List ℕ)
       → putAt (putAt (putAt d 0 (1 ∷ methodByte (o .method) ∷ flagsByte (o .keep) (o .protect) ∷ o .count ∷ [])) 4 (rows (o .tracks))) 499 (replicate 11 0) ≡ orderBody o ++ drop 510 d
   unfolding orderBody
   body-put d =
@@ -109,6 +111,11 @@ module _ (o : Order) (h : length (o .tracks) ≡ 99) where
       ap (λ (t : List ℕ). putAt (putAt t 4 r) 499 (replicate 11 0)) (put-next [] d head 0 refl)
       ∙ ap (λ (t : List ℕ). putAt t 499 (replicate 11 0)) (put-next head d r 4 refl ∙ ap (λ (k : ℕ). head ++ r ++ drop k d) n)
       ∙ put-next (head ++ r) d (replicate 11 0) 499 (omega (arith, rows-495))
+
+  -- as the code puts them
+  pub body-steps : (d : List ℕ) {d₁ d₂ d₃ : List ℕ} {m f : ℕ} → m ≡ methodByte (o .method) → f ≡ flagsByte (o .keep) (o .protect)
+      → d₁ ≡ putAt d 0 (1 ∷ m ∷ f ∷ o .count ∷ []) → d₂ ≡ putAt d₁ 4 (rows (o .tracks)) → d₃ ≡ putAt d₂ 499 (replicate 11 0) → d₃ ≡ orderBody o ++ drop 510 d
+  body-steps d em ef p1 p2 p3 = cc (body-put d)
 
   -- the check, put behind it
   pub block-put : (d : List ℕ) → sealed (take 510 (orderBody o ++ drop 510 d)) ≡ orderBytes o

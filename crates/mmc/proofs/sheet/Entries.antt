@@ -120,7 +120,7 @@ module _ (k : Kind) (n : ℕ) (ts : List Track) (out₀ out : List ℕ) (at i : 
 
 -- ---- the whole sheet
 
-pub sheet-put : (o : Order) (d : List ℕ) → o .count ≤ length (o .tracks)
+sheet-put : (o : Order) (d : List ℕ) → o .count ≤ length (o .tracks)
     → putAt (putAt (putAt d 0 (leadIn (orderKind o))) 8 (pauseOf (orderKind o))) 16 (trackEntries (orderKind o) 1 0 (tracksIn o))
     ≡ sheetOf o ++ drop (sheetLength o) d
 unfolding sheetOf entry leadIn pauseOf startOf leadOut
@@ -134,6 +134,11 @@ sheet-put o d h =
     ∙ ap (λ (t : List ℕ). putAt t 16 rest) (put-next one d two 8 refl)
     ∙ put-next (one ++ two) d rest 16 refl
     ∙ ap (λ (j : ℕ). one ++ two ++ rest ++ drop j d) n
+
+-- put in three steps, as the code does
+pub sheet-steps : (o : Order) (d : List ℕ) {d₁ d₂ d₃ one two : List ℕ} {k : Kind} → o .count ≤ length (o .tracks) → k ≡ orderKind o → one ≡ leadIn k → d₁ ≡ putAt d 0 one → two ≡ pauseOf k → d₂ ≡ putAt d₁ 8 two
+    → d₃ ≡ putAt d₂ 16 (trackEntries (orderKind o) 1 0 (tracksIn o)) → d₃ ≡ sheetOf o ++ drop (sheetLength o) d
+sheet-steps o d h ek e1 p1 e2 p2 p3 = cc (sheet-put o d h)
 
 -- ---- an order that has a sheet
 

@@ -2,7 +2,7 @@ use lib.ListN.{length}
 use mathlib.Core.Path.{_≡_}
 use borrow.Author.Needs.{needs}
 use Rattle.mmc.proofs.order.Tracks.{mapped-length}
-use Rattle.mmc.proofs.order_block.Rows.{body-put}
+use Rattle.mmc.proofs.order_block.Rows.{body-steps}
 use Rattle.mmc.proofs.order_block.put_body.Statement.{statement}
 use Rattle.mmc.proofs.order_block.put_body.Tie as tie
 
@@ -35,9 +35,13 @@ same-length c = search needs
 
 returns : tie.Need-returns
 returns c =
-    let st = c .before .before .before .before .before .before .before .before .before .before .before .before .before .before .before .before .before in
-    let a = st .args in
-    cc (body-put (a .o) (sized st) (a .out .now))
+    let q = c .before .before in
+    let r = q .before .before .before .before .before in
+    let p = r .before .before .before .before in
+    let f = p .before .before .before in
+    let m = f .before in
+    let st = m .before .before in
+    body-steps (st .args .o) (sized st) (st .args .out .now) (m .method-byte .ensures) (f .flags-byte .ensures) (p .put .ensures) (r .put-rows .ensures) (q .put2 .ensures)
 
 pub put-body-spec : {M : Type 1} → statement M
 put-body-spec =

@@ -53,14 +53,15 @@ loop-less c = search needs
 
 loop-again : tie.Need-loop-again Inv-loop μ-loop
 loop-again c =
-    let l = c .before .before .before .before .before .before .before .before in
+    let p = c .before .before in
+    let r = p .before .before .before in
+    let l = r .before .before .before in
     let a = l .before .before .before .args in
-    let p = c .before .before .put in
     let v = l .loop .inv in (
       omega arith,
-      p .kept .0 ∙ v .1,
+      p .put .kept .0 ∙ v .1,
       v .2,
-      cc (rows-next noTrack (l .loop .i) (a .o .tracks) (a .out .now) (omega arith) (omega arith)),
+      rows-next noTrack (l .loop .i) (a .o .tracks) (a .out .now) (omega arith) (omega arith) (r .row-of .ensures) (v .3) (p .put .ensures),
     )
 
 same-length : tie.Need-same-length Inv-loop μ-loop

@@ -3,7 +3,7 @@ use native.Mathlib.Omega.{arith}
 use lib.ListN.{length}
 use borrow.Author.Needs.{needs}
 use Rattle.mmc.proofs.order.Tracks.{mapped-length}
-use Rattle.mmc.proofs.sheet.Entries.{sheet-put}
+use Rattle.mmc.proofs.sheet.Entries.{sheet-steps}
 use Rattle.mmc.proofs.sheet.put_sheet.Statement.{statement}
 use Rattle.mmc.proofs.sheet.put_sheet.Tie as tie
 
@@ -39,11 +39,13 @@ same-length c = search needs
 
 returns : tie.Need-returns
 returns c =
-    let e1 = c .before .before .before .before .before .before .before .before .before .before .before .before .before .before .before in
-    let st = e1 .before .before .before in
-    let a = st .args in
-    let n = sized st in
-    cc (sheet-put (a .o) (a .out .now) (omega (arith, n, st .pre .few)))
+    let t = c .before .before in
+    let q = t .before .before .before .before in
+    let s = q .before .before .before in
+    let p = s .before .before .before in
+    let l = p .before .before .before in
+    let st = l .before .before .before in
+    sheet-steps (st .args .o) (st .args .out .now) (omega (arith, sized st, st .pre .few)) (l .before .order-kind .ensures) (l .lead-in .ensures) (p .put .ensures) (s .pause-of .ensures) (q .put2 .ensures) (t .put-tracks .ensures)
 
 pub put-sheet-spec : {M : Type 1} → statement M
 put-sheet-spec =
