@@ -96,7 +96,7 @@ readOn r (x ∷ s) = fed (awaiting r) (blocksOf (x ∷ s))
 abbrev pub following : Recorder → List ℕ → List ℕ
 following r s = ending (fed (awaiting r) (blocksOf s))
 
--- a read brings whole blocks, or all that is left of the input: then no byte comes after it
+-- a read brings whole blocks, at least one, or all that is left of the input, so that no byte comes after it
 abbrev pub Brings : List ℕ → List ℕ → Type 0
 Brings s t = ((0 < length s) × (length s % 512 ≡ 0)) ⊎ (t ≡ [])
 
@@ -143,6 +143,19 @@ Begins s = Reads (begunWith s) printed s
 -- of a later read
 abbrev pub GoesOn : Recorder → List ℕ → ℕ → Run → List ℕ → Type 0
 GoesOn r s = Reads (readOn r s) (following r) s
+
+-- what is promised of a read of the rest of a block: it stands behind the first n bytes, and is shorter than a block
+pub record ReadsRest (n : ℕ) (before : List ℕ) (r : ℕ) (after : List ℕ) : Type 0 where
+  pub kept : take n after ≡ take n before
+  pub from : n ≤ r
+  pub to : r < n + 512
+  pub room : r ≤ length after
+
+-- what is promised of the writing of a run's text: the run as it was, with no text left to write
+pub record Sends (run r : Run) : Type 0 where
+  pub state : r .state ≡ run .state
+  pub waiting : r .waiting ≡ run .waiting
+  pub used : r .used ≡ 0
 
 -- what is promised of the loop: it reads on until no reply is awaited, or 2^64 - 1 times
 pub record Finishes (before after : Run) : Type 0 where

@@ -6,7 +6,7 @@ ghost use mathlib.Core.Path.{_≡_};
 ghost use Prim.Native.Nat.{_+_, _%_, _≤_, _<_};
 ghost use lib.ListN.{length};
 ghost use Rattle.recorder.specs.Bench.{BenchSheets};
-ghost use Rattle.print.specs.Run.{stageIn, Finishes};
+ghost use Rattle.print.specs.Run.{stageIn, ReadsRest, Sends, Finishes};
 ghost use Rattle.print.specs.Bench.{ExampleTexts};
 use crate::run::Run;
 use crate::run::begin;
@@ -22,6 +22,15 @@ fn whole_blocks(n: usize) -> usize
     (n + 511) / 512 * 512
 }
 
+// Reads the rest of the last block that the first n bytes reach into, and answers how many bytes there are then.
+fn read_rest(n: usize, input: &mut [u8]) -> usize
+    requires { ⌜ (n ≤ 65536) × (length (now input) ≡ 65536) ⌝ }
+    ensures { λ r. ⌜ ReadsRest n (now (input .entry)) r (now (input .exit)) ⌝ }
+{
+    let end = whole_blocks(n);
+    n + io::read_full(STDIN_FILENO, &mut input[n..end])
+}
+
 // Reads what the input has at hand, up to 128 blocks, and the rest of a block that it has a part of.
 fn read_blocks(input: &mut [u8]) -> usize
     requires { ⌜ length (now input) ≡ 65536 ⌝ }
@@ -29,30 +38,30 @@ fn read_blocks(input: &mut [u8]) -> usize
 {
     let got = libc::read(STDIN_FILENO, input);
     let n = io::count(got, input);
-    let end = whole_blocks(n);
-    n + io::read_full(STDIN_FILENO, &mut input[n..end])
+    read_rest(n, input)
 }
 
-// Writes bytes out. The run and its buffer are named for the contract alone: the bytes are the run's text.
-fn send(run: Run, text: &[u8], bytes: &[u8])
+// Writes bytes out. The run's buffer is named for the contract alone: the bytes are the run's text.
+fn send(run: Run, text: &[u8], bytes: &[u8]) -> Run
     requires { ⌜ now bytes ≡ stageIn run (now text) .text ⌝ }
+    ensures { λ r. ⌜ Sends run r ⌝ }
 {
     io::write_all(STDOUT_FILENO, bytes);
-}
-
-// Writes the text of a run out, which then has none in its buffer.
-fn flush(run: Run, text: &[u8]) -> Run
-    requires { ⌜ run .used ≤ length (now text) ⌝ }
-    ensures { λ r. ⌜ (r .state ≡ run .state) × (r .waiting ≡ run .waiting) × (r .used ≡ 0) ⌝ }
-{
-    let used = run.used;
-    send(run, text, &text[0..used]);
     let state = run.state;
     Run {
         state: state,
         waiting: run.waiting,
         used: 0,
     }
+}
+
+// Writes the text of a run out.
+fn flush(run: Run, text: &[u8]) -> Run
+    requires { ⌜ run .used ≤ length (now text) ⌝ }
+    ensures { λ r. ⌜ Sends run r ⌝ }
+{
+    let used = run.used;
+    send(run, text, &text[0..used])
 }
 
 // Reads on until the run ends. A proved loop has to end, so it counts its turns down from a number that no run uses up.

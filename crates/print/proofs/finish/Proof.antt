@@ -5,7 +5,7 @@ use Prim.Native.Nat.{ℕ, _+_, _-_}
 use native.Mathlib.Omega.{arith}
 use lib.ListN.{length, take}
 use Rattle.recorder.proofs.Bench.{bench-sheets}
-use Rattle.print.specs.Run.{readOn, writtenOut, afterReads, stageIn}
+use Rattle.print.specs.Run.{readOn, writtenOut, afterReads, stageIn, Sends}
 use Rattle.print.specs.declared.run.Run.{Run}
 use Rattle.print.proofs.Bench.{example-texts}
 use Rattle.print.proofs.finish.Statement.{statement}
@@ -16,10 +16,10 @@ abbrev Led : Run → Run → ℕ → Type 0
 Led before run turns = (reads : List (List ℕ)) × (run ≡ afterReads before reads) × (length reads + turns ≡ 18446744073709551615)
 
 -- a read more, where a reply is awaited, and its text written out
-one-more : (first run next out : Run) (reads : List (List ℕ)) (s buffer : List ℕ) → run ≡ afterReads first reads → run .waiting ≡ true → stageIn next buffer ≡ readOn (run .state) s → (out .state ≡ next .state) × (out .waiting ≡ next .waiting) × (out .used ≡ 0) → out ≡ afterReads first (s ∷ reads)
+one-more : (first run next out : Run) (reads : List (List ℕ)) (s buffer : List ℕ) → run ≡ afterReads first reads → run .waiting ≡ true → stageIn next buffer ≡ readOn (run .state) s → Sends next out → out ≡ afterReads first (s ∷ reads)
 unfolding afterReads
 one-more first run next out reads s buffer e w h f =
-    let o : out ≡ writtenOut (stageIn next buffer) = rw (← f .0, ← f .1, ← f .2) refl in
+    let o : out ≡ writtenOut (stageIn next buffer) = rw (← f .state, ← f .waiting, ← f .used) refl in
     o ∙ ap writtenOut h ∙ rw (← e, w) refl
 
 abbrev Inv-loop : tie.InvT-loop
@@ -67,7 +67,7 @@ loop-again c =
     let r = l .loop .inv .3 in (
       b .read-blocks .kept .0 ∙ l .loop .inv .0,
       g .go-on .kept .1 .1 .0 ∙ l .loop .inv .1,
-      c .flush .ensures .2,
+      c .flush .ensures .used,
       (
         take (b .read-blocks .result - 0) (b .read-blocks .last .0) ∷ r .0,
         one-more (l .before .before .before .args .run) (l .loop .run) (g .go-on .result) (c .flush .result) (r .0) _ _ (r .1) (t .if1 .taken) (g .go-on .ensures .reaches .stage) (c .flush .ensures),
