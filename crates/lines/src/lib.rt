@@ -8,6 +8,7 @@ ghost use Rattle.mmc.specs.Refusals.{numberOf};
 ghost use Rattle.recorder.specs.Answers.{said};
 ghost use Rattle.lines.specs.Text.{Adds};
 ghost use Rattle.lines.specs.Lines.{commandLine, countedLine, waitingLine, stopText, stopLine, failedLine, lineOf, Writes};
+ghost use Rattle.lines.specs.Bench.{ExampleLines};
 use crate::text::add;
 use crate::text::add_decimal;
 use crate::text::add_hex;
@@ -41,9 +42,9 @@ fn counted_line(word: &[u8], count: u64, out: &mut [u8]) -> Made
     fill(&line[0..end], out)
 }
 
-// `waiting N`, where replies run out.
+// `waiting N`, where replies run out. Its contract also keeps the example lines, which hold of the definitions that the makers meet.
 pub fn waiting_line(count: u64, out: &mut [u8]) -> Made
-    ensures { λ r. ⌜ Writes (waitingLine count) r (now (out .entry)) (now (out .exit)) ⌝ }
+    ensures { λ r. ⌜ (Writes (waitingLine count) r (now (out .entry)) (now (out .exit))) × ExampleLines ⌝ }
 {
     counted_line(b"waiting ", count, out)
 }

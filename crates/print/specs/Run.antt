@@ -2,7 +2,8 @@
 use mathlib.Core.Path.{_≡_}
 use mathlib.Core.Bool.{Bool, true, false}
 use mathlib.Core.List.{List, [], _∷_, _++_}
-use Prim.Native.Nat.{ℕ, zero, suc, _+_, _*_, _/_, _≤_}
+use mathlib.Core.Logic.{_⊎_}
+use Prim.Native.Nat.{ℕ, zero, suc, _+_, _*_, _/_, _%_, _≤_, _<_}
 use lib.ListN.{length, take, drop}
 use Rattle.mmc.specs.Bytes.{if}
 use Rattle.mmc.specs.Refusals.{Outcome, pass, refuse}
@@ -64,13 +65,6 @@ unfoldable pub fed : Stage → List (List ℕ) → Stage
 fed g [] = g
 fed g (b ∷ bs) = if (g .waiting) (fed (repliedTo g b) bs) g
 
--- where a run stands once its text is written out, and with a text written before
-abbrev pub cleared : Stage → Stage
-cleared g = record { state = g .state; waiting = g .waiting; text = [] }
-
-abbrev pub behind : List ℕ → Stage → Stage
-behind text g = record { state = g .state; waiting = g .waiting; text = text ++ g .text }
-
 -- an order block and the reply blocks behind it
 unfoldable pub begunWith : List ℕ → Stage
 begunWith s = fed (answeredOf (takeOf (take 512 s)) []) (blocksOf (drop 512 s))
@@ -79,9 +73,41 @@ begunWith s = fed (answeredOf (takeOf (take 512 s)) []) (blocksOf (drop 512 s))
 abbrev pub waitingFor : Recorder → Stage
 waitingFor r = record { state = r; waiting = false; text = waitingLine (r .count) }
 
+-- the whole text of a run, if the input ends at a stage
+abbrev pub ending : Stage → List ℕ
+ending g = g .text ++ if (g .waiting) (waitingFor (g .state) .text) []
+
 -- "The print program reads an order block and then reply blocks": the whole text of a whole input
 abbrev pub printed : List ℕ → List ℕ
-printed s = begunWith s .text ++ if (begunWith s .waiting) (waitingFor (begunWith s .state) .text) []
+printed s = ending (begunWith s)
+
+-- ---- an input that is read in pieces
+
+-- a reply is awaited, and all text is written out
+abbrev pub awaiting : Recorder → Stage
+awaiting r = record { state = r; waiting = true; text = [] }
+
+-- where the next read leads; one of no bytes says that the input has ended
+abbrev pub readOn : Recorder → List ℕ → Stage
+readOn r [] = waitingFor r
+readOn r (x ∷ s) = fed (awaiting r) (blocksOf (x ∷ s))
+
+-- the text still to come, if these bytes are all that is left of the input
+abbrev pub following : Recorder → List ℕ → List ℕ
+following r s = ending (fed (awaiting r) (blocksOf s))
+
+-- a read brings whole blocks, at least one, or all that is left of the input, so that no byte comes after it
+abbrev pub Brings : List ℕ → List ℕ → Type 0
+Brings s t = ((0 < length s) × (length s % 512 ≡ 0)) ⊎ (t ≡ [])
+
+-- a run that stands at a stage, once its text is written out
+abbrev pub writtenOut : Stage → Run
+writtenOut g = record { state = g .state; waiting = g .waiting; used = 0 }
+
+-- a run after later reads, the latest first
+unfoldable pub afterReads : Run → List (List ℕ) → Run
+afterReads r [] = r
+afterReads r (s ∷ ss) = if (afterReads r ss .waiting) (writtenOut (readOn (afterReads r ss .state) s)) (afterReads r ss)
 
 -- ---- the contracts
 
@@ -104,11 +130,35 @@ pub record Reaches (g : Stage) (most : ℕ) (r : Run) (after : List ℕ) : Type 
   pub stage : stageIn r after ≡ g
   pub room : r .used ≤ most
 
--- the same of a read of bytes, and that after a read of whole blocks the next read goes on as if both had been one
-pub record Feeds (g : Stage) (s : List ℕ) (most : ℕ) (r : Run) (after : List ℕ) : Type 0 where
-  pub reaches : Reaches (fed g (blocksOf s)) most r after
-  pub goes-on : (t : List ℕ) (m : ℕ) → length s ≡ 512 * m → fed g (blocksOf (s ++ t)) ≡ behind (take (r .used) after) (fed (cleared (stageIn r after)) (blocksOf t))
+-- the same of a read of the bytes s, and that where the bytes t come after it, the text of both is the text of this read and then, if a
+-- reply is still awaited, the text that follows from t
+pub record Reads (g : Stage) (textOf : List ℕ → List ℕ) (s : List ℕ) (most : ℕ) (r : Run) (after : List ℕ) : Type 0 where
+  pub reaches : Reaches g most r after
+  pub goes-on : (t : List ℕ) → Brings s t → textOf (s ++ t) ≡ take (r .used) after ++ if (r .waiting) (following (r .state) t) []
 
-pub record Begins (s : List ℕ) (most : ℕ) (r : Run) (after : List ℕ) : Type 0 where
-  pub reaches : Reaches (begunWith s) most r after
-  pub goes-on : (t : List ℕ) (m : ℕ) → length s ≡ 512 * suc m → begunWith (s ++ t) ≡ behind (take (r .used) after) (fed (cleared (stageIn r after)) (blocksOf t))
+-- of the first read
+abbrev pub Begins : List ℕ → ℕ → Run → List ℕ → Type 0
+Begins s = Reads (begunWith s) printed s
+
+-- of a later read
+abbrev pub GoesOn : Recorder → List ℕ → ℕ → Run → List ℕ → Type 0
+GoesOn r s = Reads (readOn r s) (following r) s
+
+-- what is promised of a read of the rest of a block: it stands behind the first n bytes, and is shorter than a block
+pub record ReadsRest (n : ℕ) (before : List ℕ) (r : ℕ) (after : List ℕ) : Type 0 where
+  pub kept : take n after ≡ take n before
+  pub from : n ≤ r
+  pub to : r < n + 512
+  pub room : r ≤ length after
+
+-- what is promised of the writing of a run's text: the run as it was, with no text left to write
+pub record Sends (run r : Run) : Type 0 where
+  pub state : r .state ≡ run .state
+  pub waiting : r .waiting ≡ run .waiting
+  pub used : r .used ≡ 0
+
+-- what is promised of the loop: it reads on until no reply is awaited, or 2^64 - 1 times
+pub record Finishes (before after : Run) : Type 0 where
+  pub reads : List (List ℕ)
+  pub run : after ≡ afterReads before reads
+  pub ended : length reads < 18446744073709551615 → after .waiting ≡ false

@@ -1,11 +1,12 @@
 // A run of the print program over the blocks that were read: the recorder is called, and its answers become lines.
 ghost use mathlib.Core.Path.{_≡_};
+ghost use mathlib.Core.Bool.{true};
 ghost use Prim.Native.Nat.{_+_, _-_, _≤_, min};
 ghost use lib.ListN.{length};
 ghost use Rattle.mmc.specs.ReplyBlock.{readReply};
 ghost use Rattle.recorder.specs.Answers.{said};
 ghost use Rattle.recorder.specs.Job.{nextIn};
-ghost use Rattle.print.specs.Run.{writtenBy, waits, repliedOf, repliedTo, waitingFor, stageIn, AddsLine, roomFor, Reaches, Feeds, Begins};
+ghost use Rattle.print.specs.Run.{writtenBy, waits, repliedOf, repliedTo, blocksOf, fed, waitingFor, stageIn, AddsLine, roomFor, Reaches, Begins, GoesOn};
 use mmc::refusals::Made;
 use mmc::reply_block::ReplyRead;
 use mmc::reply_block::read_reply;
@@ -106,9 +107,9 @@ fn block_end(length: usize, at: usize) -> usize
 }
 
 // The reply blocks of a read, until the run ends.
-pub(crate) fn feed(run: Run, input: &[u8], text: &mut [u8]) -> Run
+fn feed(run: Run, input: &[u8], text: &mut [u8]) -> Run
     requires { ⌜ run .used + roomFor (length (now input)) ≤ length (now text) ⌝ }
-    ensures { λ r. ⌜ Feeds (stageIn run (now (text .entry))) (now (input .entry)) (length (now (text .entry))) r (now (text .exit)) ⌝ }
+    ensures { λ r. ⌜ Reaches (fed (stageIn run (now (text .entry))) (blocksOf (now (input .entry)))) (length (now (text .entry))) r (now (text .exit)) ⌝ }
 {
     let mut current = run;
     let mut at: usize = 0;
@@ -143,7 +144,7 @@ pub(crate) fn begin(input: &[u8], text: &mut [u8]) -> Run
 }
 
 // The last line where replies run out.
-pub(crate) fn wait(state: Recorder, text: &mut [u8]) -> Run
+fn wait(state: Recorder, text: &mut [u8]) -> Run
     requires { ⌜ 64 ≤ length (now text) ⌝ }
     ensures { λ r. ⌜ Reaches (waitingFor state) (length (now (text .entry))) r (now (text .exit)) ⌝ }
 {
@@ -153,4 +154,16 @@ pub(crate) fn wait(state: Recorder, text: &mut [u8]) -> Run
         waiting: false,
         used: written(made),
     }
+}
+
+// A later read, where a reply is awaited and all text is written out: its reply blocks, or the last line where it brought no byte.
+pub(crate) fn go_on(run: Run, input: &[u8], text: &mut [u8]) -> Run
+    requires { ⌜ (run .waiting ≡ true) × (run .used ≡ 0) × (64 ≤ length (now text)) × (roomFor (length (now input)) ≤ length (now text)) ⌝ }
+    ensures { λ r. ⌜ GoesOn (run .state) (now (input .entry)) (length (now (text .entry))) r (now (text .exit)) ⌝ }
+{
+    if input.len() == 0 {
+        let state = run.state;
+        return wait(state, text);
+    }
+    feed(run, input, text)
 }

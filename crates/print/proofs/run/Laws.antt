@@ -2,7 +2,8 @@
 use mathlib.Core.Path.{_≡_, refl, sym, ap, _∙_}
 use mathlib.Core.Bool.{Bool, true, false}
 use mathlib.Core.List.{List, [], _∷_, _++_, append-assoc, append-nil}
-use Prim.Native.Nat.{ℕ, zero, suc, _+_, _-_, _*_, _≤_, _<_, min}
+use mathlib.Core.Logic.{⊎-elim}
+use Prim.Native.Nat.{ℕ, zero, suc, _+_, _-_, _*_, _/_, _%_, _≤_, _<_, min}
 use native.Mathlib.Nat.{min-eq-left, min-eq-right}
 use native.Mathlib.Decide.{decLe}
 use native.Mathlib.Omega.{arith}
@@ -19,7 +20,7 @@ use Rattle.mmc.specs.declared.refusals.Made.the-variants as M
 use Rattle.recorder.specs.Job.{Next, takeOf}
 use Rattle.recorder.specs.declared.job.Recorder.{Recorder}
 use Rattle.lines.specs.Lines.{Writes}
-use Rattle.print.specs.Run.{writtenBy, Stage, answeredOf, repliedTo, cut, blocksOf, fed, cleared, behind, begunWith, stageIn, roomFor, Reaches, Feeds, Begins}
+use Rattle.print.specs.Run.{writtenBy, Stage, answeredOf, repliedTo, cut, blocksOf, fed, begunWith, waitingFor, ending, printed, awaiting, readOn, following, Brings, stageIn, roomFor, Reaches, Reads, Begins, GoesOn}
 use Rattle.print.specs.declared.run.Run.{Run}
 
 -- ---- lines
@@ -172,6 +173,13 @@ begun s e g p q r =
 
 -- ---- one read after another
 
+-- where a run stands once its text is written out, and with a text written before
+abbrev cleared : Stage → Stage
+cleared g = record { state = g .state; waiting = g .waiting; text = [] }
+
+abbrev behind : List ℕ → Stage → Stage
+behind text g = record { state = g .state; waiting = g .waiting; text = text ++ g .text }
+
 blocks-append : (m : ℕ) (s t : List ℕ) → length s ≡ 512 * m → blocksOf (s ++ t) ≡ blocksOf s ++ blocksOf t
 unfolding blocksOf cut
 blocks-append zero [] t e = refl
@@ -227,8 +235,60 @@ begun-on h s t m q e =
     let n : length (drop 512 s) ≡ 512 * m = omega (arith, length-drop 512 s) in
     rw (take-append-le 512 s t k, drop-append-le 512 s t k) (fed-on (answeredOf (takeOf (take 512 s)) []) h (drop 512 s) t m q n)
 
-pub feeds : (g : Stage) (s : List ℕ) {most : ℕ} {r : Run} {after : List ℕ} → Reaches (fed g (blocksOf s)) most r after → Feeds g s most r after
-feeds g s {r = r} {after = after} p = record { reaches = p; goes-on = λ t m e. fed-on g (stageIn r after) s t m (p .stage) e }
+-- the text of a run that goes on from a stage
+goes-on-from : (h : Stage) (t : List ℕ) → ending (behind (h .text) (fed (cleared h) (blocksOf t))) ≡ h .text ++ if (h .waiting) (following (h .state) t) []
+goes-on-from h t =
+    append-assoc (h .text) (fed (cleared h) (blocksOf t) .text) _
+    ∙ ap (λ (x : List ℕ). h .text ++ x) (
+    known (h .waiting)
+    (λ w. rw w refl)
+    (λ w. rw (w, fed-ended (record { state = h .state; waiting = false; text = [] }) (blocksOf t) refl) refl))
+
+-- the text of a run whose input ends at a stage
+ends-at : (h : Stage) (t : List ℕ) → t ≡ [] → ending h ≡ h .text ++ if (h .waiting) (following (h .state) t) []
+unfolding fed blocksOf cut
+ends-at h [] e = refl
+ends-at h (x ∷ t) e = let z : _≡_ {A = ℕ} 0 1 = cc in absurd (omega arith)
+
+nothing-more : (s t : List ℕ) → t ≡ [] → s ++ t ≡ s
+nothing-more s t e = ap (λ (x : List ℕ). s ++ x) e ∙ append-nil s
+
+-- how many blocks a read of whole blocks brings
+blocks-in : (s : List ℕ) → (0 < length s) × (length s % 512 ≡ 0) → length s ≡ 512 * suc (length s / 512 - 1)
+blocks-in s h = omega arith
 
 pub begins : (s : List ℕ) {most : ℕ} {r : Run} {after : List ℕ} → Reaches (begunWith s) most r after → Begins s most r after
-begins s {r = r} {after = after} p = record { reaches = p; goes-on = λ t m e. begun-on (stageIn r after) s t m (p .stage) e }
+begins s {r = r} {after = after} p =
+    let h = stageIn r after in
+    record {
+      reaches = p;
+      goes-on = λ t. ⊎-elim
+          (λ b. ap ending (begun-on h s t (length s / 512 - 1) (p .stage) (blocks-in s b)) ∙ goes-on-from h t)
+          (λ e. ap printed (nothing-more s t e) ∙ ap ending (sym (p .stage)) ∙ ends-at h t e);
+    }
+
+pub goes-on : (q : Recorder) (s : List ℕ) {most : ℕ} {r : Run} {after : List ℕ} → Reaches (readOn q s) most r after → GoesOn q s most r after
+goes-on q [] {r = r} {after = after} p =
+    record {
+      reaches = p;
+      goes-on = λ t. ⊎-elim
+          (λ b. absurd (omega arith))
+          (λ e. sym (ends-at (awaiting q) t e) ∙ sym (append-nil _) ∙ ap ending (sym (p .stage)) ∙ ends-at (stageIn r after) t e);
+    }
+goes-on q (x ∷ s) {r = r} {after = after} p =
+    let h = stageIn r after in
+    record {
+      reaches = p;
+      goes-on = λ t. ⊎-elim
+          (λ b. ap ending (fed-on (awaiting q) h (x ∷ s) t (suc (length (x ∷ s) / 512 - 1)) (p .stage) (blocks-in (x ∷ s) b)) ∙ goes-on-from h t)
+          (λ e. ap (following q) (nothing-more (x ∷ s) t e) ∙ ap ending (sym (p .stage)) ∙ ends-at h t e);
+    }
+
+-- a later read of no bytes, and one of some
+pub read-none : (q : Recorder) (s : List ℕ) → length s ≡ 0 → waitingFor q ≡ readOn q s
+read-none q [] h = refl
+read-none q (x ∷ s) h = absurd (omega arith)
+
+pub read-some : (r : Run) (text s : List ℕ) → r .waiting ≡ true → r .used ≡ 0 → 0 < length s → fed (stageIn r text) (blocksOf s) ≡ readOn (r .state) s
+read-some r text [] w u h = absurd (omega arith)
+read-some r text (x ∷ s) w u h = ap (λ (g : Stage). fed g (blocksOf (x ∷ s))) (stage-of (r .state) w (ap (λ (k : ℕ). take k text) u))

@@ -48,8 +48,8 @@ returns c =
     let a = b .before .before .before .args in
     let k : length (l .add-line .last .1 .1 .1 .1 .0) ≡ length (a .text .now) = l .add-line .kept .1 .1 .1 .1 .0 in
     begins (a .input .now) (record {
-      stage = f .ensures .reaches .stage ∙ begun (a .input .now) (b .block-end .result) _ (b .block-end .ensures) (t .take .ensures .step) (stage-of (t .take .result .state) (l .add-line .ensures .waiting) (l .add-line .ensures .text));
-      room = omega (arith, f .ensures .reaches .room);
+      stage = f .ensures .stage ∙ begun (a .input .now) (b .block-end .result) _ (b .block-end .ensures) (t .take .ensures .step) (stage-of (t .take .result .state) (l .add-line .ensures .waiting) (l .add-line .ensures .text));
+      room = omega (arith, f .ensures .room);
     })
 
 pub begin-spec : {M : Type 1} → statement M

@@ -4,7 +4,7 @@ use native.Mathlib.Omega.{arith}
 use lib.ListN.{length, drop}
 use borrow.Author.Tests.{not-true, not-false}
 use Rattle.print.specs.Run.{stageIn, roomFor, fed, blocksOf}
-use Rattle.print.proofs.run.Laws.{Ends, block-ends, fed-ended, fed-step, fed-all, feeds}
+use Rattle.print.proofs.run.Laws.{Ends, block-ends, fed-ended, fed-step, fed-all}
 use Rattle.print.proofs.run.feed.Statement.{statement}
 use Rattle.print.proofs.run.feed.Tie as tie
 
@@ -27,11 +27,10 @@ same-length c = c .before .before .before .loop .inv .1
 returns : tie.Need-returns Inv-loop μ-loop
 returns c =
     let l = c .before .before .before in
-    let a = l .before .before .before .args in
-    feeds (stageIn (a .run) (a .text .now)) (a .input .now) (record {
+    record {
       stage = sym (fed-ended (stageIn (l .loop .current) (l .loop .text)) _ (not-true _ (c .if1 .taken))) ∙ l .loop .inv .3;
       room = omega arith;
-    })
+    }
 
 -- where the block ends
 ends : (c : tie.After-block-end Inv-loop μ-loop) → Ends (length (c .before .before .before .before .before .before .before .args .input .now)) (c .before .before .before .before .loop .at) (c .block-end .result)
@@ -77,10 +76,10 @@ returns-2 : tie.Need-returns-2 Inv-loop μ-loop
 returns-2 c =
     let l = c .before in
     let a = l .before .before .before .args in
-    feeds (stageIn (a .run) (a .text .now)) (a .input .now) (record {
+    record {
       stage = sym (fed-all (stageIn (l .loop .current) (l .loop .text)) (a .input .now) (l .loop .at) (omega arith)) ∙ l .loop .inv .3;
       room = omega arith;
-    })
+    }
 
 pub feed-spec : {M : Type 1} → statement M
 feed-spec =

@@ -19,11 +19,11 @@ returns : tie.Need-returns
 returns c =
     let l = c .before .before .before .waiting-line in
     let a = c .before .before .before .before .before .before in
-    let e = wrote (l .result) (l .ensures) (a .pre) in
+    let e = wrote (l .result) (l .ensures .0) (a .pre) in
     let n = c .written .ensures ∙ e .0 in
     record {
       stage = stage-of (a .args .state) refl (rw (n, e .1) (take-append-seam _ _));
-      room = omega (arith, l .ensures .short);
+      room = omega (arith, l .ensures .0 .short);
     }
 
 pub wait-spec : {M : Type 1} → statement M
