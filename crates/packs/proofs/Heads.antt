@@ -1,11 +1,11 @@
 -- Facts on requests that the proofs share: what the tests of their bytes tell.
-use mathlib.Core.Path.{_≡_, refl, ap, _∙_}
+use mathlib.Core.Path.{_≡_, refl, ap, sym, _∙_}
 use mathlib.Core.Bool.{Bool, true, false, _&&_}
 use mathlib.Core.List.{List, [], _∷_}
-use Prim.Native.Nat.{ℕ, _-_, _≤_, _<_}
+use Prim.Native.Nat.{ℕ, _-_, _≤_}
 use native.Mathlib.Omega.{arith}
-use lib.ListN.{length, getD, take, drop, replicate, length-drop}
-use lib.Seq.{take-all}
+use lib.ListN.{length, getD, take, drop, replicate, length-drop, length-replicate}
+use lib.Seq.{length-take-le, take-all}
 use lib.Dec.{eqb, leb}
 use borrow.Author.Tests.{eqb-true, leb-true, eq-eqb, ne-eqb}
 use Rattle.mmc.specs.Bytes.{be16}
@@ -13,9 +13,12 @@ use Rattle.packs.specs.Answers.{answerTo}
 use Rattle.packs.specs.Requests.{requestOf, isServed, isHead, isRequest, nextLength, answered}
 use Rattle.packs.specs.declared.Request.{Request}
 
+pub neither : (b : Bool) → b ≡ true → b ≡ false → ⊥
+neither b p q = let z : _≡_ {A = ℕ} 0 1 = cc in omega arith
+
 both : (a b : Bool) → a && b ≡ true → (a ≡ true) × (b ≡ true)
 both true b e = (refl, e)
-both false b e = let z : _≡_ {A = ℕ} 0 1 = cc in absurd (omega arith)
+both false b e = absurd (neither false e refl)
 
 -- five bytes, read from the first, the second and the fourth on
 pub says : (head : List ℕ) (room size : ℕ) → length head ≡ 5 → room ≡ be16 (take (length head - 1) (drop 1 head)) → size ≡ be16 (take (length head - 3) (drop 3 head)) → _≡_ {A = Request} (record { operation = getD head 0 0; room = room; size = size }) (requestOf head)
@@ -46,19 +49,23 @@ pub limits : (head : List ℕ) (r : Request) → isHead head ≡ true → r ≡ 
 unfolding isHead
 limits head r e q = served r (ap isServed q ∙ both (eqb (length head) 5) (isServed (requestOf head)) e .1)
 
+-- the space for a payload
+pub space-long : (n : ℕ) → n ≤ 32768 → length {A = ℕ} (take n (replicate 32768 0)) ≡ n
+space-long n h = length-take-le {A = ℕ} n (replicate 32768 0) (omega (arith, length-replicate {A = ℕ} 32768 0))
+
 -- after a head comes its payload
 pub payload-next : (head : List ℕ) → isHead head ≡ true → nextLength head ≡ requestOf head .size
 payload-next [] e = absurd (omega (arith, five [] e))
 payload-next (b ∷ bs) e = refl
 
--- a payload that is as long as its head says, and one that is shorter
-pub whole : (head payload : List ℕ) → isHead head ≡ true → length payload ≡ requestOf head .size → isRequest head payload ≡ true
+-- a payload that is as long as its head says, and one that is not
+pub whole : (head payload : List ℕ) (r : Request) → isHead head ≡ true → r ≡ requestOf head → length payload ≡ r .size → isRequest head payload ≡ true
 unfolding isRequest
-whole head payload e l = rw (e, eq-eqb (length payload) (requestOf head .size) l)
+whole head payload r e q l = rw (e, eq-eqb (length payload) (requestOf head .size) (l ∙ ap (λ (s : Request). s .size) q))
 
-pub short : (head payload : List ℕ) → isHead head ≡ true → length payload < requestOf head .size → isRequest head payload ≡ false
+pub unlike : (head payload : List ℕ) (r : Request) → isHead head ≡ true → r ≡ requestOf head → (length payload ≡ r .size → ⊥) → isRequest head payload ≡ false
 unfolding isRequest
-short head payload e l = rw (e, ne-eqb (length payload) (requestOf head .size) (λ q. omega arith))
+unlike head payload r e q n = rw (e, ne-eqb (length payload) (requestOf head .size) (λ l. n (l ∙ ap (λ (s : Request). s .size) (sym q))))
 
 -- no request without a head
 pub headless : (head payload : List ℕ) → isHead head ≡ false → isRequest head payload ≡ false

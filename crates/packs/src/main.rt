@@ -102,6 +102,11 @@ fn put_answer(operation: u8, payload: &[u8], out: &mut [u8])
     out[2] = (head.amount % 256) as u8;
 }
 
+// The longest lent buffer and the longest payload.
+const MOST_ROOM: usize = 8192;
+
+const MOST_SIZE: usize = 32768;
+
 // What the head of a request says: the operation, and the lengths of the lent buffer and of the payload.
 struct Request {
     operation: u8,
@@ -131,10 +136,10 @@ fn is_served(r: Request) -> bool
     if 3 < r.operation {
         return false;
     }
-    if 8192 < r.room {
+    if MOST_ROOM < r.room {
         return false;
     }
-    if 32768 < r.size {
+    if MOST_SIZE < r.size {
         return false;
     }
     true
@@ -168,7 +173,7 @@ fn send(head: &[u8], payload: &[u8], bytes: &[u8]) -> bool
 }
 
 // Tells not to go on. What came is named for the contract alone: it is no request.
-fn end(head: &[u8], payload: &[u8]) -> bool
+fn stop(head: &[u8], payload: &[u8]) -> bool
     requires { ⌜ isRequest (now head) (now payload) ≡ false ⌝ }
     ensures { λ r. ⌜ r ≡ false ⌝ }
 {
@@ -181,31 +186,42 @@ fn answer(head: &[u8], payload: &[u8]) -> bool
 {
     let request = request_of(head);
     let room = request.room;
-    let mut space = [0xA5u8; 8195];
+    let mut space = [0xA5u8; 3 + MOST_ROOM];
     let n = 3 + room;
     put_answer(request.operation, payload, &mut space[0..n]);
     send(head, payload, &space[0..n])
 }
 
-// Reads the payload that a head announces into a space of its length, and answers the request if all of it came.
+// Answers what came if it is a whole request, and tells whether to go on.
+fn answer_whole(head: &[u8], payload: &[u8]) -> bool
+    requires { ⌜ isHead (now head) ≡ true ⌝ }
+    ensures { λ r. ⌜ (isRequest (now (head .entry)) (now (payload .entry)) ≡ false → r ≡ false) ⌝ }
+{
+    let request = request_of(head);
+    if payload.len() != request.size {
+        return stop(head, payload);
+    }
+    answer(head, payload)
+}
+
+// Reads the payload that a head announces, and answers the request.
 fn serve_payload(head: &[u8], space: &mut [u8]) -> bool
     requires { ⌜ (isHead (now head) ≡ true) × (length (now space) ≡ requestOf (now head) .size) ⌝ }
 {
     let got = receive(head, space);
-    if got < space.len() {
-        return end(head, &space[..got]);
-    }
-    answer(head, space)
+    answer_whole(head, &space[..got])
 }
 
-// Answers the request that begins with the bytes that came, if they are a head.
-fn serve_head(head: &[u8]) -> bool {
+// Answers the request that begins with the bytes that came if they are a head, and tells whether to go on.
+fn serve_head(head: &[u8]) -> bool
+    ensures { λ r. ⌜ (isHead (now (head .entry)) ≡ false → r ≡ false) ⌝ }
+{
     if !is_head(head) {
-        return end(head, &[]);
+        return stop(head, &[]);
     }
     let request = request_of(head);
     let size = request.size;
-    let mut space = [0u8; 32768];
+    let mut space = [0u8; MOST_SIZE];
     serve_payload(head, &mut space[..size])
 }
 
@@ -219,8 +235,7 @@ fn serve() -> bool {
 // Ends the program, where it is not to go on or has had all its turns.
 fn over(more: bool, turns: u64)
     requires { ⌜ (more ≡ true → turns ≡ 0) ⌝ }
-{
-}
+{}
 
 // Answers requests until the input ends. A proved loop has to end, and nothing says that the input does: so the loop counts its
 // turns down, from a number that no run uses up.

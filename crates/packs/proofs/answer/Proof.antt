@@ -6,11 +6,6 @@ use Rattle.packs.proofs.Steps.{still-there, sent}
 use borrow.Author.Needs.{needs}
 use Rattle.packs.proofs.answer.Statement.{statement}
 use Rattle.packs.proofs.answer.Tie as tie
-use Rattle.packs.proofs.answer.Reads as reads
-use Rattle.packs.proofs.answer.Lts as lts
-use Rattle.packs.proofs.put_answer.Reads as put-answer-reads
-use Rattle.packs.proofs.request_of.Reads as request-of-reads
-use Rattle.packs.proofs.send.Reads as send-reads
 
 request-of-requires : tie.Need-request-of-requires
 request-of-requires c κs =

@@ -5,10 +5,6 @@ use Rattle.packs.specs.Requests.{isHead}
 use borrow.Author.Needs.{needs}
 use Rattle.packs.proofs.is_head.Statement.{statement}
 use Rattle.packs.proofs.is_head.Tie as tie
-use Rattle.packs.proofs.is_head.Reads as reads
-use Rattle.packs.proofs.is_head.Lts as lts
-use Rattle.packs.proofs.is_served.Reads as is-served-reads
-use Rattle.packs.proofs.request_of.Reads as request-of-reads
 
 returns : tie.Need-returns
 unfolding isHead

@@ -1,18 +1,9 @@
 -- The program ends: the measure is the number of turns that are left. Nothing has to hold from turn to turn.
-use mathlib.Core.Path.{_≡_}
-use mathlib.Core.Bool.{Bool, true, false}
 use mathlib.Core.Logic.{⊎-elim}
-use Prim.Native.Nat.{ℕ}
 use native.Mathlib.Omega.{arith}
+use Rattle.packs.proofs.Heads.{neither}
 use Rattle.packs.proofs.main.Statement.{statement}
 use Rattle.packs.proofs.main.Tie as tie
-use Rattle.packs.proofs.main.Reads as reads
-use Rattle.packs.proofs.main.Lts as lts
-use Rattle.packs.proofs.over.Reads as over-reads
-use Rattle.packs.proofs.serve.Reads as serve-reads
-
-neither : (b : Bool) → b ≡ true → b ≡ false → ⊥
-neither b p q = let z : _≡_ {A = ℕ} 0 1 = cc in omega arith
 
 abbrev Inv-loop : tie.InvT-loop
 Inv-loop turns₀ more₀ turns more = Unit {0}

@@ -2,9 +2,6 @@ use Rattle.packs.proofs.Heads.{says}
 use borrow.Author.Needs.{needs}
 use Rattle.packs.proofs.request_of.Statement.{statement}
 use Rattle.packs.proofs.request_of.Tie as tie
-use Rattle.packs.proofs.request_of.Reads as reads
-use Rattle.packs.proofs.request_of.Lts as lts
-use Rattle.mmc.proofs.bytes.number16.Reads as number16-reads
 
 shared-slice-read-t3 : tie.Need-shared-slice-read-t3
 shared-slice-read-t3 c = search needs

@@ -1,29 +1,19 @@
-use borrow.Author.Tests.{not-true, not-false}
-use Prim.Native.Nat.{ℕ}
-use lib.ListN.{replicate, length-replicate}
-use lib.Seq.{length-take-le}
-use Rattle.packs.specs.declared.Request.{Request}
 use mathlib.Core.Path.{sym, ap, _∙_}
-use native.Mathlib.Omega.{arith}
-use Rattle.packs.proofs.Heads.{five, limits, headless}
+use borrow.Author.Tests.{not-true, not-false}
+use Rattle.packs.specs.declared.Request.{Request}
+use Rattle.packs.proofs.Heads.{neither, five, limits, space-long, headless}
 use borrow.Author.Needs.{needs}
 use Rattle.packs.proofs.serve_head.Statement.{statement}
 use Rattle.packs.proofs.serve_head.Tie as tie
-use Rattle.packs.proofs.serve_head.Reads as reads
-use Rattle.packs.proofs.serve_head.Lts as lts
-use Rattle.packs.proofs.end.Reads as end-reads
-use Rattle.packs.proofs.is_head.Reads as is-head-reads
-use Rattle.packs.proofs.request_of.Reads as request-of-reads
-use Rattle.packs.proofs.serve_payload.Reads as serve-payload-reads
 
 is-head-requires : tie.Need-is-head-requires
 is-head-requires c κs = search needs
 
-slice-aggregate-end : tie.Need-slice-aggregate-end
-slice-aggregate-end c = search needs
+slice-aggregate-stop : tie.Need-slice-aggregate-stop
+slice-aggregate-stop c = search needs
 
-end-requires : tie.Need-end-requires
-end-requires c κs =
+stop-requires : tie.Need-stop-requires
+stop-requires c κs =
     let p = c .before .before in
     headless (p .before .before .args .head .now) _ (sym (p .is-head .ensures) ∙ not-true _ (c .before .if1 .taken))
 
@@ -37,16 +27,19 @@ request-of-requires c κs =
 
 array-borrow-prefix-space : tie.Need-array-borrow-prefix-space
 array-borrow-prefix-space c =
-    let p = c .before .before in
-    let l = limits (p .before .before .args .head .now) (c .request-of .result) (sym (p .is-head .ensures) ∙ not-false _ (c .before .if1 .left)) (c .request-of .ensures) in
+    let q = c in
+    let p = q .before .before in
+    let e = sym (p .is-head .ensures) ∙ not-false _ (q .before .if1 .left) in
+    let l = limits (p .before .before .args .head .now) (q .request-of .result) e (q .request-of .ensures) in
     search needs
 
 slice-aggregate-serve-payload : tie.Need-slice-aggregate-serve-payload
 slice-aggregate-serve-payload c =
     let q = c .before in
     let p = q .before .before in
-    let l = limits (p .before .before .args .head .now) (q .request-of .result) (sym (p .is-head .ensures) ∙ not-false _ (q .before .if1 .left)) (q .request-of .ensures) in
-    sym (length-take-le (q .request-of .result .size) (replicate 32768 0) (omega (arith, length-replicate {A = ℕ} 32768 0)))
+    let e = sym (p .is-head .ensures) ∙ not-false _ (q .before .if1 .left) in
+    let l = limits (p .before .before .args .head .now) (q .request-of .result) e (q .request-of .ensures) in
+    sym (space-long _ (l .size-most))
 
 serve-payload-requires : tie.Need-serve-payload-requires
 serve-payload-requires c κs =
@@ -54,18 +47,21 @@ serve-payload-requires c κs =
     let p = q .before .before in
     let e = sym (p .is-head .ensures) ∙ not-false _ (q .before .if1 .left) in
     let l = limits (p .before .before .args .head .now) (q .request-of .result) e (q .request-of .ensures) in
-    (e, length-take-le (q .request-of .result .size) (replicate 32768 0) (omega (arith, length-replicate {A = ℕ} 32768 0)) ∙ ap (λ (r : Request). r .size) (q .request-of .ensures))
+    (e, space-long _ (l .size-most) ∙ ap (λ (r : Request). r .size) (q .request-of .ensures))
 
 returns-2 : tie.Need-returns-2
-returns-2 c = search needs
+returns-2 c e =
+    let q = c .before .before .before in
+    let p = q .before .before in
+    absurd (neither _ (sym (p .is-head .ensures) ∙ not-false _ (q .before .if1 .left)) e)
 
 pub serve-head-spec : {M : Type 1} → statement M
 serve-head-spec =
     tie.close
     (tie.spec
     is-head-requires
-    slice-aggregate-end
-    end-requires
+    slice-aggregate-stop
+    stop-requires
     returns
     request-of-requires
     array-borrow-prefix-space
