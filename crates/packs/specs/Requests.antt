@@ -24,7 +24,7 @@ isHead head = eqb (length head) 5 && isServed (requestOf head)
 unfoldable pub isRequest : List ℕ → List ℕ → Bool
 isRequest head payload = isHead head && eqb (length payload) (requestOf head .size)
 
--- how many bytes of a request come after those that came before: a head, and after a head its payload
+-- how many bytes come next: where nothing came yet a head's five, and after a head its payload
 abbrev pub nextLength : List ℕ → ℕ
 nextLength [] = 5
 nextLength (b ∷ bs) = requestOf (b ∷ bs) .size

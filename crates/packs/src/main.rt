@@ -8,10 +8,10 @@
 // An answer: 0, or the refusal's number; in two bytes the number of packs, the length of the run of titles, or the check bytes, and
 // 0 where refused; then the lent buffer, which was filled with A5h beforehand.
 ghost use mathlib.Core.Path.{_≡_};
+ghost use mathlib.Core.Bool.{true, false};
 ghost use mathlib.Core.List.{[], _∷_, _++_};
 ghost use Prim.Native.Nat.{_≤_};
-ghost use mathlib.Core.Bool.{true, false};
-ghost use lib.ListN.{length, drop};
+ghost use lib.ListN.{length, take, drop};
 ghost use Rattle.mmc.specs.Bytes.{bytes16};
 ghost use Rattle.cdtext.specs.Refusals.{numberOf};
 ghost use Rattle.io.specs.Counts.{Counts};
@@ -102,9 +102,10 @@ fn put_answer(operation: u8, payload: &[u8], out: &mut [u8])
     out[2] = (head.amount % 256) as u8;
 }
 
-// The longest lent buffer and the longest payload.
+// The longest lent buffer.
 const MOST_ROOM: usize = 8192;
 
+// The longest payload.
 const MOST_SIZE: usize = 32768;
 
 // What the head of a request says: the operation, and the lengths of the lent buffer and of the payload.
@@ -114,7 +115,7 @@ struct Request {
     size: usize,
 }
 
-// Reads what five bytes say.
+// What five bytes say as the head of a request.
 fn request_of(head: &[u8]) -> Request
     requires { ⌜ length (now head) ≡ 5 ⌝ }
     ensures { λ r. ⌜ r ≡ requestOf (now (head .entry)) ⌝ }
@@ -126,7 +127,7 @@ fn request_of(head: &[u8]) -> Request
     }
 }
 
-// Whether a request is one that is answered.
+// Whether a request is within the limits, so that it is answered.
 fn is_served(r: Request) -> bool
     ensures { λ b. ⌜ b ≡ isServed r ⌝ }
 {
@@ -192,11 +193,12 @@ fn answer(head: &[u8], payload: &[u8]) -> bool
     send(head, payload, &space[0..n])
 }
 
-// Answers what came if it is a whole request, and tells whether to go on.
-fn answer_whole(head: &[u8], payload: &[u8]) -> bool
-    requires { ⌜ isHead (now head) ≡ true ⌝ }
-    ensures { λ r. ⌜ (isRequest (now (head .entry)) (now (payload .entry)) ≡ false → r ≡ false) ⌝ }
+// Answers a request if its payload came whole, and tells whether to go on. Of the space the first got bytes came.
+fn serve_payload(head: &[u8], space: &[u8], got: usize) -> bool
+    requires { ⌜ (isHead (now head) ≡ true) × Counts got (now space) ⌝ }
+    ensures { λ r. ⌜ (isRequest (now (head .entry)) (take got (now (space .entry))) ≡ false → r ≡ false) ⌝ }
 {
+    let payload = &space[..got];
     let request = request_of(head);
     if payload.len() != request.size {
         return stop(head, payload);
@@ -204,35 +206,37 @@ fn answer_whole(head: &[u8], payload: &[u8]) -> bool
     answer(head, payload)
 }
 
-// Reads the payload that a head announces, and answers the request.
-fn serve_payload(head: &[u8], space: &mut [u8]) -> bool
+// Reads the payload that a head announces, into a space of that length, and answers the request.
+fn read_payload(head: &[u8], space: &mut [u8]) -> bool
     requires { ⌜ (isHead (now head) ≡ true) × (length (now space) ≡ requestOf (now head) .size) ⌝ }
 {
     let got = receive(head, space);
-    answer_whole(head, &space[..got])
+    serve_payload(head, space, got)
 }
 
-// Answers the request that begins with the bytes that came if they are a head, and tells whether to go on.
-fn serve_head(head: &[u8]) -> bool
-    ensures { λ r. ⌜ (isHead (now (head .entry)) ≡ false → r ≡ false) ⌝ }
+// Answers a request if what came is a head, and tells whether to go on. Of the space the first got bytes came.
+fn serve_head(space: &[u8], got: usize) -> bool
+    requires { ⌜ Counts got (now space) ⌝ }
+    ensures { λ r. ⌜ (isHead (take got (now (space .entry))) ≡ false → r ≡ false) ⌝ }
 {
+    let head = &space[..got];
     if !is_head(head) {
         return stop(head, &[]);
     }
     let request = request_of(head);
     let size = request.size;
-    let mut space = [0u8; MOST_SIZE];
-    serve_payload(head, &mut space[..size])
+    let mut payload = [0u8; MOST_SIZE];
+    read_payload(head, &mut payload[..size])
 }
 
 // Answers one request, and tells whether to go on.
 fn serve() -> bool {
     let mut space = [0u8; 5];
     let got = receive(&[], &mut space);
-    serve_head(&space[..got])
+    serve_head(&space, got)
 }
 
-// Ends the program, where it is not to go on or has had all its turns.
+// Does nothing. Why the program ends is named for the contract alone: it is not to go on, or has had all its turns.
 fn over(more: bool, turns: u64)
     requires { ⌜ (more ≡ true → turns ≡ 0) ⌝ }
 {}
