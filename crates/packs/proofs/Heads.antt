@@ -1,13 +1,13 @@
 -- Facts on requests that the proofs share: what the tests of their bytes tell.
 use mathlib.Core.Path.{_≡_, refl, ap, sym, _∙_}
-use mathlib.Core.Bool.{Bool, true, false, _&&_}
+use mathlib.Core.Bool.{Bool, true, false, not, _&&_}
 use mathlib.Core.List.{List, [], _∷_}
 use Prim.Native.Nat.{ℕ, _-_, _≤_}
 use native.Mathlib.Omega.{arith}
 use lib.ListN.{length, getD, take, drop, replicate, length-drop, length-replicate}
 use lib.Seq.{length-take-le, take-all}
 use lib.Dec.{eqb, leb}
-use borrow.Author.Tests.{eqb-true, leb-true, eq-eqb, ne-eqb}
+use borrow.Author.Tests.{eqb-true, leb-true, eq-eqb, ne-eqb, not-true, not-false}
 use Rattle.mmc.specs.Bytes.{be16}
 use Rattle.packs.specs.Answers.{answerTo}
 use Rattle.packs.specs.Requests.{requestOf, isServed, isHead, isRequest, nextLength, answered}
@@ -15,6 +15,13 @@ use Rattle.packs.specs.declared.Request.{Request}
 
 pub neither : (b : Bool) → b ≡ true → b ≡ false → ⊥
 neither b p q = let z : _≡_ {A = ℕ} 0 1 = cc in omega arith
+
+-- what a test told is so, and what a failed test told is not
+pub is-so : {a b : Bool} → a ≡ b → not a ≡ false → b ≡ true
+is-so {a} e f = sym e ∙ not-false a f
+
+pub is-not : {a b : Bool} → a ≡ b → not a ≡ true → b ≡ false
+is-not {a} e f = sym e ∙ not-true a f
 
 both : (a b : Bool) → a && b ≡ true → (a ≡ true) × (b ≡ true)
 both true b e = (refl, e)

@@ -1,22 +1,18 @@
 use Prim.Native.Nat.{ℕ, _+_, _-_}
 use native.Mathlib.Omega.{arith}
 use lib.ListN.{replicate, length-replicate}
+use borrow.Author.Needs.{needs}
 use Rattle.packs.proofs.Heads.{five, limits, headed, answer-said}
 use Rattle.packs.proofs.Steps.{still-there, sent}
-use borrow.Author.Needs.{needs}
 use Rattle.packs.proofs.answer.Statement.{statement}
 use Rattle.packs.proofs.answer.Tie as tie
 
 request-of-requires : tie.Need-request-of-requires
-request-of-requires c κs =
-    let st = c .before .before in
-    five (st .args .head .now) (headed (st .args .head .now) (st .args .payload .now) (st .pre))
+request-of-requires c κs = five _ (headed _ _ (c .before .before .pre))
 
 add-n : tie.Need-add-n
 add-n c =
-    let q = c in
-    let st = q .before .before .before in
-    let l = limits (st .args .head .now) (q .request-of .result) (headed (st .args .head .now) (st .args .payload .now) (st .pre)) (q .request-of .ensures) in
+    let l = limits _ _ (headed _ _ (c .before .before .before .pre)) (c .request-of .ensures) in
     search needs
 
 sub-put-answer : tie.Need-sub-put-answer
@@ -27,16 +23,12 @@ part-space-start c = search needs
 
 part-space-end : tie.Need-part-space-end
 part-space-end c =
-    let q = c in
-    let st = q .before .before .before in
-    let l = limits (st .args .head .now) (q .request-of .result) (headed (st .args .head .now) (st .args .payload .now) (st .pre)) (q .request-of .ensures) in
+    let l = limits _ _ (headed _ _ (c .before .before .before .pre)) (c .request-of .ensures) in
     search needs
 
 put-answer-requires : tie.Need-put-answer-requires
 put-answer-requires c κs =
-    let q = c .before in
-    let st = q .before .before .before in
-    let l = limits (st .args .head .now) (q .request-of .result) (headed (st .args .head .now) (st .args .payload .now) (st .pre)) (q .request-of .ensures) in
+    let l = limits _ _ (headed _ _ (c .before .before .before .before .pre)) (c .before .request-of .ensures) in
     search needs
 
 sub-send : tie.Need-sub-send
@@ -47,21 +39,21 @@ part-send-start c = search needs
 
 part-send-end : tie.Need-part-send-end
 part-send-end c =
-    let q = c .before .before .before .before in
-    let st = q .before .before .before in
-    let l = limits (st .args .head .now) (q .request-of .result) (headed (st .args .head .now) (st .args .payload .now) (st .pre)) (q .request-of .ensures) in
     let p = c .before .before in
-    still-there (replicate 8195 165) (p .put-answer .last .1 .1 .0) (3 + q .request-of .result .room - 0) (q .request-of .result .room) (length-replicate {A = ℕ} 8195 165) (l .room-most) (p .put-answer .kept .1 .1 .0)
+    let q = p .before .before in
+    let r = q .request-of .result in
+    let l = limits _ _ (headed _ _ (q .before .before .before .pre)) (q .request-of .ensures) in
+    still-there (replicate 8195 165) (p .put-answer .last .1 .1 .0) (3 + r .room - 0) (r .room) (length-replicate {A = ℕ} 8195 165) (l .room-most) (p .put-answer .kept .1 .1 .0)
 
 send-requires : tie.Need-send-requires
 send-requires c κs =
-    let q = c .before .before .before .before .before in
-    let st = q .before .before .before in
-    let l = limits (st .args .head .now) (q .request-of .result) (headed (st .args .head .now) (st .args .payload .now) (st .pre)) (q .request-of .ensures) in
     let p = c .before .before .before in
+    let q = p .before .before in
+    let st = q .before .before .before in
     let r = q .request-of .result in
-    let ys = p .put-answer .last .1 .1 .0 in
-    (st .pre, answer-said (st .args .head .now) (st .args .payload .now) _ r (q .request-of .ensures) (sent ys (st .args .payload .now) (3 + r .room - 0) 8195 165 (r .room) (r .operation) (omega arith) (omega arith) (p .put-answer .kept .1 .1 .0) (p .put-answer .ensures)))
+    let l = limits _ _ (headed _ _ (q .before .before .before .pre)) (q .request-of .ensures) in
+    let s = sent (p .put-answer .last .1 .1 .0) (st .args .payload .now) (3 + r .room - 0) 8195 165 (r .room) (r .operation) (omega arith) (omega arith) (p .put-answer .kept .1 .1 .0) (p .put-answer .ensures) in
+    (st .pre, answer-said _ _ _ r (q .request-of .ensures) s)
 
 returns : tie.Need-returns
 returns c = search needs

@@ -1,8 +1,8 @@
 use mathlib.Core.Path.{_∙_}
 use lib.ListN.{length}
 use borrow.Author.Tests.{eq-eqb, ne-eqb}
-use Rattle.packs.specs.Requests.{isHead}
 use borrow.Author.Needs.{needs}
+use Rattle.packs.specs.Requests.{isHead}
 use Rattle.packs.proofs.is_head.Statement.{statement}
 use Rattle.packs.proofs.is_head.Tie as tie
 

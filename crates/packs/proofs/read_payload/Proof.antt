@@ -1,6 +1,6 @@
 use mathlib.Core.Path.{sym, _∙_}
-use Rattle.packs.proofs.Heads.{payload-next}
 use borrow.Author.Needs.{needs}
+use Rattle.packs.proofs.Heads.{payload-next}
 use Rattle.packs.proofs.read_payload.Statement.{statement}
 use Rattle.packs.proofs.read_payload.Tie as tie
 

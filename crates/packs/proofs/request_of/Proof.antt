@@ -1,5 +1,5 @@
-use Rattle.packs.proofs.Heads.{says}
 use borrow.Author.Needs.{needs}
+use Rattle.packs.proofs.Heads.{says}
 use Rattle.packs.proofs.request_of.Statement.{statement}
 use Rattle.packs.proofs.request_of.Tie as tie
 

@@ -1,6 +1,6 @@
 use lib.ListN.{take}
-use Rattle.packs.proofs.Heads.{neither, five, whole, unlike}
 use borrow.Author.Needs.{needs}
+use Rattle.packs.proofs.Heads.{neither, five, whole, unlike}
 use Rattle.packs.proofs.serve_payload.Statement.{statement}
 use Rattle.packs.proofs.serve_payload.Tie as tie
 
