@@ -8,12 +8,15 @@
 // An answer: 0, or the refusal's number; in two bytes the number of packs, the length of the run of titles, or the check bytes, and
 // 0 where refused; then the lent buffer, which was filled with A5h beforehand.
 ghost use mathlib.Core.Path.{_≡_};
+ghost use mathlib.Core.Bool.{true, false};
 ghost use mathlib.Core.List.{[], _∷_, _++_};
 ghost use Prim.Native.Nat.{_≤_};
-ghost use lib.ListN.{length, drop, replicate};
+ghost use lib.ListN.{length, take, drop};
 ghost use Rattle.mmc.specs.Bytes.{bytes16};
 ghost use Rattle.cdtext.specs.Refusals.{numberOf};
+ghost use Rattle.io.specs.Counts.{Counts};
 ghost use Rattle.packs.specs.Answers.{answerTo, bytesOf};
+ghost use Rattle.packs.specs.Requests.{requestOf, isServed, isHead, isRequest, nextLength, answered};
 use cdtext::check::check_of;
 use cdtext::packs::make_packs;
 use cdtext::packs::read_packs;
@@ -99,73 +102,153 @@ fn put_answer(operation: u8, payload: &[u8], out: &mut [u8])
     out[2] = (head.amount % 256) as u8;
 }
 
+// The longest lent buffer.
+const MOST_ROOM: usize = 8192;
+
+// The longest payload.
+const MOST_SIZE: usize = 32768;
+
+// What the head of a request says: the operation, and the lengths of the lent buffer and of the payload.
+struct Request {
+    operation: u8,
+    room: usize,
+    size: usize,
+}
+
+// What five bytes say as the head of a request.
+fn request_of(head: &[u8]) -> Request
+    requires { ⌜ length (now head) ≡ 5 ⌝ }
+    ensures { λ r. ⌜ r ≡ requestOf (now (head .entry)) ⌝ }
+{
+    Request {
+        operation: head[0],
+        room: number16(&head[1..]) as usize,
+        size: number16(&head[3..]) as usize,
+    }
+}
+
+// Whether a request is within the limits, so that it is answered.
+fn is_served(r: Request) -> bool
+    ensures { λ b. ⌜ b ≡ isServed r ⌝ }
+{
+    if r.operation < 1 {
+        return false;
+    }
+    if 3 < r.operation {
+        return false;
+    }
+    if MOST_ROOM < r.room {
+        return false;
+    }
+    if MOST_SIZE < r.size {
+        return false;
+    }
+    true
+}
+
+// Whether the bytes are the head of a request.
+fn is_head(head: &[u8]) -> bool
+    ensures { λ r. ⌜ r ≡ isHead (now (head .entry)) ⌝ }
+{
+    if head.len() != 5 {
+        return false;
+    }
+    is_served(request_of(head))
+}
+
+// Reads until the space is full or the input ends, and tells how many bytes came. What came of the request before is named for the
+// contract alone: the space is for what comes next, and for no more.
+fn receive(before: &[u8], space: &mut [u8]) -> usize
+    requires { ⌜ length (now space) ≡ nextLength (now before) ⌝ }
+    ensures { λ r. ⌜ Counts r (now (space .exit)) ⌝ }
+{
+    io::read_full(STDIN_FILENO, space)
+}
+
 // Writes the answer to a request, and tells whether the whole of it was written. The request is named for the contract alone: the
 // bytes are its answer.
-fn send(operation: u8, payload: &[u8], room: usize, bytes: &[u8]) -> bool
-    requires { ⌜ now bytes ≡ answerTo operation (now payload) (replicate room 0xA5) ⌝ }
+fn send(head: &[u8], payload: &[u8], bytes: &[u8]) -> bool
+    requires { ⌜ (isRequest (now head) (now payload) ≡ true) × (now bytes ≡ answered (now head) (now payload)) ⌝ }
 {
     io::write_all(STDOUT_FILENO, bytes)
 }
 
-// Answers a request with a lent buffer of so many bytes, and tells whether the whole answer was written.
-fn answer(operation: u8, payload: &[u8], room: usize) -> bool
-    requires { ⌜ (1 ≤ operation) × (operation ≤ 3) ⌝ }
+// Tells not to go on. What came is named for the contract alone: it is no request.
+fn stop(head: &[u8], payload: &[u8]) -> bool
+    requires { ⌜ isRequest (now head) (now payload) ≡ false ⌝ }
+    ensures { λ r. ⌜ r ≡ false ⌝ }
 {
-    if 8192 < room {
-        return false;
-    }
-    let mut space = [0xA5u8; 8195];
-    let end = 3 + room;
-    put_answer(operation, payload, &mut space[0..end]);
-    send(operation, payload, room, &space[0..end])
+    false
 }
 
-// Reads a payload as long as its space, and answers the request if all of it came.
-fn serve_in(operation: u8, payload: &mut [u8], room: usize) -> bool
-    requires { ⌜ (1 ≤ operation) × (operation ≤ 3) ⌝ }
+// Answers a request, and tells whether the whole answer was written.
+fn answer(head: &[u8], payload: &[u8]) -> bool
+    requires { ⌜ isRequest (now head) (now payload) ≡ true ⌝ }
 {
-    let got = io::read_full(STDIN_FILENO, payload);
-    if got < payload.len() {
-        return false;
-    }
-    answer(operation, payload, room)
+    let request = request_of(head);
+    let room = request.room;
+    let mut space = [0xA5u8; 3 + MOST_ROOM];
+    let n = 3 + room;
+    put_answer(request.operation, payload, &mut space[0..n]);
+    send(head, payload, &space[0..n])
 }
 
-// Serves a request with a payload of n bytes.
-fn serve_payload(operation: u8, n: usize, room: usize) -> bool
-    requires { ⌜ (1 ≤ operation) × (operation ≤ 3) ⌝ }
+// Answers a request if its payload came whole, and tells whether to go on. Of the space the first got bytes came.
+fn serve_payload(head: &[u8], space: &[u8], got: usize) -> bool
+    requires { ⌜ (isHead (now head) ≡ true) × Counts got (now space) ⌝ }
+    ensures { λ r. ⌜ (isRequest (now (head .entry)) (take got (now (space .entry))) ≡ false → r ≡ false) ⌝ }
 {
-    if 32768 < n {
-        return false;
+    let payload = &space[..got];
+    let request = request_of(head);
+    if payload.len() != request.size {
+        return stop(head, payload);
     }
-    let mut space = [0u8; 32768];
-    serve_in(operation, &mut space[0..n], room)
+    answer(head, payload)
+}
+
+// Reads the payload that a head announces, into a space of that length, and answers the request.
+fn read_payload(head: &[u8], space: &mut [u8]) -> bool
+    requires { ⌜ (isHead (now head) ≡ true) × (length (now space) ≡ requestOf (now head) .size) ⌝ }
+{
+    let got = receive(head, space);
+    serve_payload(head, space, got)
+}
+
+// Answers a request if what came is a head, and tells whether to go on. Of the space the first got bytes came.
+fn serve_head(space: &[u8], got: usize) -> bool
+    requires { ⌜ Counts got (now space) ⌝ }
+    ensures { λ r. ⌜ (isHead (take got (now (space .entry))) ≡ false → r ≡ false) ⌝ }
+{
+    let head = &space[..got];
+    if !is_head(head) {
+        return stop(head, &[]);
+    }
+    let request = request_of(head);
+    let size = request.size;
+    let mut payload = [0u8; MOST_SIZE];
+    read_payload(head, &mut payload[..size])
 }
 
 // Answers one request, and tells whether to go on.
 fn serve() -> bool {
-    let mut head = [0u8; 5];
-    let got = io::read_full(STDIN_FILENO, &mut head);
-    if got < 5 {
-        return false;
-    }
-    let operation = head[0];
-    if operation < 1 {
-        return false;
-    }
-    if 3 < operation {
-        return false;
-    }
-    let room = number16(&head[1..3]) as usize;
-    let n = number16(&head[3..5]) as usize;
-    serve_payload(operation, n, room)
+    let mut space = [0u8; 5];
+    let got = receive(&[], &mut space);
+    serve_head(&space, got)
 }
+
+// Does nothing. Why the program ends is named for the contract alone: it is not to go on, or has had all its turns.
+fn over(more: bool, turns: u64)
+    requires { ⌜ (more ≡ true → turns ≡ 0) ⌝ }
+{}
 
 // Answers requests until the input ends. A proved loop has to end, and nothing says that the input does: so the loop counts its
 // turns down, from a number that no run uses up.
 fn main() {
     let mut turns = u64::MAX;
-    while turns > 0 && serve() {
+    let mut more = serve();
+    while turns > 0 && more {
         turns -= 1;
+        more = serve();
     }
+    over(more, turns);
 }
