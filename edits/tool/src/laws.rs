@@ -14,7 +14,9 @@ type Name = (String, String);
 pub struct Laws {
     /// each record's fields, with the text of each
     records: BTreeMap<Name, Vec<(String, String)>>,
-    /// the functions of each crate whose contract cites a record, by the record's name
+    /// what each name for a statement stands for
+    names: BTreeMap<Name, String>,
+    /// the records that a contract cites, each with the functions of its own crate that do
     promises: BTreeMap<Name, BTreeSet<String>>,
     /// the crates that a crate sees, itself first
     sees: BTreeMap<String, Vec<String>>,
@@ -34,14 +36,24 @@ pub fn read(root: &Path, crates: &BTreeMap<String, Vec<String>>) -> Laws {
         let ours = deps.iter().filter(|d| crates.contains_key(*d)).cloned();
         laws.sees.insert(name.clone(), std::iter::once(name.clone()).chain(ours).collect());
         for path in files(&folder.join("specs"), "antt") {
-            for (record, fields) in records_in(&fs::read_to_string(path).unwrap_or_default()) {
+            let text = fs::read_to_string(path).unwrap_or_default();
+            for (record, fields) in records_in(&text) {
                 laws.records.insert((name.clone(), record), fields);
             }
+            for (short, means) in names_in(&text) {
+                laws.names.insert((name.clone(), short), means);
+            }
         }
-        for path in files(&folder.join("src"), "rt") {
+    }
+    for name in crates.keys() {
+        for path in files(&root.join("crates").join(name).join("src"), "rt") {
             for (function, clause) in clauses_in(&fs::read_to_string(path).unwrap_or_default()) {
-                for word in words(&clause) {
-                    laws.promises.entry((name.clone(), word)).or_default().insert(function.clone());
+                for (of, record) in laws.named(name, &clause) {
+                    if of == *name {
+                        laws.promises.entry((of, record)).or_default().insert(function.clone());
+                    } else {
+                        laws.promises.entry((of, record)).or_default();
+                    }
                 }
             }
         }
@@ -86,6 +98,23 @@ fn records_in(text: &str) -> Vec<(String, Vec<(String, String)>)> {
     found
 }
 
+/// `abbrev pub NAME : .. → Type 0`, and below it `NAME .. = ..`: a name for a statement, with what it stands for.
+fn names_in(text: &str) -> Vec<(String, String)> {
+    let mut found: Vec<(String, String)> = Vec::new();
+    for line in text.lines() {
+        let head = line.strip_prefix("abbrev pub ").or(line.strip_prefix("unfoldable pub "));
+        if let (Some(head), true) = (head, line.ends_with("Type 0")) {
+            found.push((head.split_whitespace().next().unwrap_or_default().to_string(), String::new()));
+        } else if let Some((name, means)) = found.last_mut() {
+            if let (true, Some((_, right))) = (line.starts_with(name.as_str()), line.split_once(" = ")) {
+                means.push_str(right);
+                means.push(' ');
+            }
+        }
+    }
+    found
+}
+
 /// What each function ensures.
 fn clauses_in(text: &str) -> Vec<(String, String)> {
     let mut function = String::new();
@@ -108,20 +137,29 @@ fn words(text: &str) -> BTreeSet<String> {
 }
 
 impl Laws {
-    /// The records that a name can mean in a crate.
-    fn meant(&self, of: &str, word: &str) -> Vec<Name> {
-        let seen = self.sees[of].iter().map(|c| (c.clone(), word.to_string()));
-        seen.filter(|name| self.records.contains_key(name)).collect()
+    /// The records that a text of a crate names, by themselves or by a name for a statement.
+    fn named(&self, of: &str, text: &str) -> BTreeSet<Name> {
+        let places = |word: &str| self.sees[of].iter().map(|c| (c.clone(), word.to_string())).collect::<Vec<Name>>();
+        let mut todo: Vec<Name> = words(text).iter().flat_map(|w| places(w)).collect();
+        let (mut seen, mut found) = (BTreeSet::new(), BTreeSet::new());
+        while let Some(name) = todo.pop() {
+            if self.records.contains_key(&name) {
+                found.insert(name.clone());
+            }
+            if let (true, Some(means)) = (seen.insert(name.clone()), self.names.get(&name)) {
+                todo.extend(words(means).iter().flat_map(|w| self.sees[&name.0].iter().map(move |c| (c.clone(), w.clone()))));
+            }
+        }
+        found
     }
 
     /// The records that a contract cites, and those that their fields cite.
     fn cited(&self) -> BTreeSet<Name> {
-        let mut todo: Vec<Name> = self.promises.keys().flat_map(|(of, word)| self.meant(of, word)).collect();
+        let mut todo: Vec<Name> = self.promises.keys().cloned().collect();
         let mut found = BTreeSet::new();
         while let Some(name) = todo.pop() {
             if found.insert(name.clone()) {
-                let texts = self.records[&name].iter().flat_map(|(_, text)| words(text));
-                todo.extend(texts.flat_map(|word| self.meant(&name.0, &word)));
+                todo.extend(self.records[&name].iter().flat_map(|(_, text)| self.named(&name.0, text)));
             }
         }
         found
@@ -176,7 +214,8 @@ impl Laws {
         }
         let short = |name: &String| name.rsplit("::").next().unwrap_or(name).to_string();
         for law in &edit.laws {
-            let Some(carry) = self.promises.get(&(edit.of.clone(), law.record.clone())) else { continue };
+            let carry = self.promises.get(&(edit.of.clone(), law.record.clone())).filter(|c| !c.is_empty());
+            let Some(carry) = carry else { continue };
             if !functions.iter().any(|f| carry.contains(&short(f))) {
                 return Err(format!("no function that promises {} fails: does its contract still carry the law?", law.record));
             }
@@ -208,7 +247,7 @@ mod tests {
     use crate::changes::Changes;
     use crate::edit::Law;
 
-    const SPECS: &str = "-- a comment\npub record Makes (o : Order) : Type 0 where\n  pub filled : Fills o\n  -- why\n  pub back :\n    (b : A) → b\n\nf = 1\n  pub no : law\n";
+    const SPECS: &str = "abbrev pub Promised : Order → Type 0\nPromised o = Makes o\n\npub record Makes (o : Order) : Type 0 where\n  pub filled : Fills o\n  -- why\n  pub back :\n    (b : A) → b\n\nf = 1\n  pub no : law\n";
 
     fn laws() -> Laws {
         let mut laws = Laws::default();
@@ -216,9 +255,10 @@ mod tests {
         for (record, fields) in records_in(SPECS) {
             laws.records.insert(("c".into(), record), fields);
         }
-        for (function, clause) in clauses_in("pub fn make(o: Order) -> Made\n    ensures { λ r. ⌜ Makes o r ⌝ }\n") {
-            for word in words(&clause) {
-                laws.promises.entry(("c".into(), word)).or_default().insert(function.clone());
+        laws.names.extend(names_in(SPECS).into_iter().map(|(short, means)| (("c".to_string(), short), means)));
+        for (function, clause) in clauses_in("pub fn make(o: Order) -> Made\n    ensures { λ r. ⌜ Promised o r ⌝ }\n") {
+            for name in laws.named("c", &clause) {
+                laws.promises.entry(name).or_default().insert(function.clone());
             }
         }
         laws
