@@ -27,6 +27,10 @@ unfoldable pub remainderFrom : ℕ → List ℕ → ℕ
 remainderFrom r [] = r
 remainderFrom r (x ∷ xs) = remainderFrom (byteIn r x) xs
 
--- "start 0, all bits inverted"
+-- "all bits inverted"
+abbrev pub inverted : ℕ → ℕ
+inverted r = 65535 - r
+
+-- "start 0"
 unfoldable pub checkOf : List ℕ → ℕ
-checkOf b = 65535 - remainderFrom 0 b
+checkOf b = inverted (remainderFrom 0 b)

@@ -8,7 +8,7 @@ use lib.Dec.{eqb, leb}
 use Rattle.mmc.specs.Bytes.{if, bytes16, allZero, sameBytes}
 use Rattle.mmc.specs.Refusals.{Outcome, pass, refuse, answerOf, bufferOf}
 use Rattle.cdtext.specs.Check.{checkOf}
-use Rattle.cdtext.specs.Titles.{allowed, titleCount, allTitles, runOf}
+use Rattle.cdtext.specs.Titles.{mostTitles, allowed, titleCount, allTitles, runOf}
 use Rattle.cdtext.specs.Refusals.{madeOf, readOf}
 use Rattle.cdtext.specs.declared.packs.Place.{Place}
 use Rattle.cdtext.specs.declared.refusals.Made.{Made}
@@ -83,9 +83,17 @@ sizePacks sizes p = sizePack sizes p 0 ++ sizePack sizes p 1 ++ sizePack sizes p
 unfoldable pub packsOf : List ℕ → List ℕ
 packsOf run = textPacks run (packsFor run) ++ sizePacks (sizeRecord (titleCount run) (packsFor run)) (packsFor run)
 
+-- the 255 of "19 for more than 255 packs in all"
+abbrev pub mostPacks : ℕ
+mostPacks = 255
+
+-- twelve bytes in each pack but the three size packs
+abbrev pub longestRun : ℕ
+longestRun = 12 * (mostPacks - 3)
+
 -- the packs of a run of titles: 17, then 19
 unfoldable pub packs : List ℕ → Outcome (List ℕ)
-packs run = if (allowed run) (if (leb (packsFor run + 3) 255) (pass (packsOf run)) (refuse 19)) (refuse 17)
+packs run = if (allowed run) (if (leb (packsFor run + 3) mostPacks) (pass (packsOf run)) (refuse 19)) (refuse 17)
 
 -- ---- what a reader finds
 
@@ -105,7 +113,7 @@ runIn b = trimmed (textIn (length b / 18 - 3) b) ++ 0 ∷ []
 
 -- 18 bytes for each of 4 to 255 packs
 unfoldable pub packsSize : ℕ → Bool
-packsSize n = leb 72 n && (leb n 4590 && eqb (n % 18) 0)
+packsSize n = leb 72 n && (leb n (18 * mostPacks) && eqb (n % 18) 0)
 
 abbrev pub areBytes : Outcome (List ℕ) → List ℕ → Bool
 areBytes (pass p) b = sameBytes p b
@@ -123,8 +131,8 @@ readPacks b = if (isPacks b) (pass (runIn b)) (refuse 18)
 
 -- what the inner makers need: allowed titles, packs that can be numbered, and room for them
 pub record Fits (run : List ℕ) (room : ℕ) : Type 0 where
-  pub few : titleCount run ≤ 99
-  pub short : length run ≤ 3024
+  pub few : titleCount run ≤ mostTitles
+  pub short : length run ≤ longestRun
   pub some : 1 ≤ length run
   pub holds : 18 * (packsFor run + 3) ≤ room
 

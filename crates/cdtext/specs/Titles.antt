@@ -24,9 +24,13 @@ unfoldable pub titleCount : List ℕ → ℕ
 titleCount [] = 0
 titleCount (x ∷ xs) = if (eqb x 0) 1 0 + titleCount xs
 
+-- the 99 of "a count of titles outside 1 to 99"
+abbrev pub mostTitles : ℕ
+mostTitles = 99
+
 -- 17: "a title not allowed or without its zero, or a count of titles outside 1 to 99"
 unfoldable pub allowed : List ℕ → Bool
-allowed run = titlesFrom 0 run && (leb 1 (titleCount run) && leb (titleCount run) 99)
+allowed run = titlesFrom 0 run && (leb 1 (titleCount run) && leb (titleCount run) mostTitles)
 
 -- ---- the same as a list of titles
 

@@ -11,8 +11,8 @@ use borrow.Author.Tests.{le-leb, lt-leb, leb-true}
 use Rattle.mmc.specs.Bytes.{sameBytes}
 use Rattle.mmc.specs.Refusals.{pass, refuse, answerOf, bufferOf}
 use Rattle.mmc.proofs.bytes.Steps.{known, both, same-is}
-use Rattle.cdtext.specs.Titles.{allowed, titlesFrom, titleCount}
-use Rattle.cdtext.specs.Packs.{packsFor, packsOf, packs, textPacks, sizePacks, sizeRecord, areBytes, Fits, FillsPacks, MakesPacks}
+use Rattle.cdtext.specs.Titles.{mostTitles, allowed, titlesFrom, titleCount}
+use Rattle.cdtext.specs.Packs.{mostPacks, longestRun, packsFor, packsOf, packs, textPacks, sizePacks, sizeRecord, areBytes, Fits, FillsPacks, MakesPacks}
 use Rattle.cdtext.specs.Refusals.{numberOf}
 use Rattle.cdtext.specs.declared.refusals.Made.{Made}
 use Rattle.cdtext.specs.declared.refusals.Made.the-variants as M
@@ -26,12 +26,12 @@ use Rattle.cdtext.proofs.packs.Laws.{some, long, few, no-gaps, reads-ba
 
 -- ---- the count of titles
 
-counts : (run : List ℕ) → allowed run ≡ true → (1 ≤ titleCount run) × (titleCount run ≤ 99)
+counts : (run : List ℕ) → allowed run ≡ true → (1 ≤ titleCount run) × (titleCount run ≤ mostTitles)
 unfolding allowed
 counts run e =
     let w = both (titlesFrom 0 run) _ e in
-    let v = both (leb 1 (titleCount run)) (leb (titleCount run) 99) (w .1) in
-    (leb-true 1 (titleCount run) (v .0), leb-true (titleCount run) 99 (v .1))
+    let v = both (leb 1 (titleCount run)) (leb (titleCount run) mostTitles) (w .1) in
+    (leb-true 1 (titleCount run) (v .0), leb-true (titleCount run) mostTitles (v .1))
 
 -- titles are counted
 pub counted : (run : List ℕ) (t : ℕ) → t ≡ found run → (t ≡ 0 → ⊥) → (allowed run ≡ true) × (t ≡ titleCount run)
@@ -48,16 +48,16 @@ none run t e h =
 -- ---- the length of the run
 
 -- 19
-pub too-many : (run : List ℕ) → allowed run ≡ true → 3024 < length run → packs run ≡ refuse 19
+pub too-many : (run : List ℕ) → allowed run ≡ true → longestRun < length run → packs run ≡ refuse 19
 unfolding packs
-too-many run a h = rw (a, lt-leb (packsFor run + 3) 255 (omega arith))
+too-many run a h = rw (a, lt-leb (packsFor run + 3) mostPacks (omega arith))
 
-pub passed : (run : List ℕ) → allowed run ≡ true → length run ≤ 3024 → packs run ≡ pass (packsOf run)
+pub passed : (run : List ℕ) → allowed run ≡ true → length run ≤ longestRun → packs run ≡ pass (packsOf run)
 unfolding packs
-passed run a h = rw (a, le-leb (packsFor run + 3) 255 (omega arith))
+passed run a h = rw (a, le-leb (packsFor run + 3) mostPacks (omega arith))
 
-pub fits : (run : List ℕ) (room : ℕ) → allowed run ≡ true → length run ≤ 3024 → 18 * (packsFor run + 3) ≤ room → Fits run room
-fits run room a h r = record { few = counts run a .1; short = h; some = some run a; holds = r }
+pub fits : (run : List ℕ) (room : ℕ) → allowed run ≡ true → length run ≤ longestRun → 18 * (packsFor run + 3) ≤ room → Fits run room
+fits run room a h r = record { few = counts run a .1; short = h; some = omega (arith, some run a); holds = r }
 
 -- ---- the lent buffer
 

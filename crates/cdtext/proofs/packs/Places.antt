@@ -1,14 +1,12 @@
 -- Where a text ends, byte by byte and part by part.
 use mathlib.Core.Path.{_≡_, refl, sym, ap, _∙_}
 use mathlib.Core.List.{List, [], _∷_, _++_}
-use mathlib.Core.Bool.{Bool, true, false}
-use Prim.Native.Nat.{ℕ, zero, suc, _+_, _*_, _≤_, _<_}
+use Prim.Native.Nat.{ℕ, _+_, _*_, _≤_, _<_}
 use native.Mathlib.Omega.{arith}
 use lib.Dec.{eqb}
 use lib.ListN.{length, getD, take, drop, drop-of-length-le, take-append-drop}
 use lib.Seq.{take-add}
-use Rattle.mmc.specs.Bytes.{if}
-use Rattle.mmc.proofs.bytes.Steps.{drop-next}
+use Rattle.mmc.proofs.bytes.Steps.{drop-next, known}
 use Rattle.cdtext.specs.Titles.{titleCount}
 use Rattle.cdtext.specs.Packs.{nextPlace, placeAfter, firstPlace, placeAt}
 use Rattle.cdtext.specs.declared.packs.Place.{Place}
@@ -40,20 +38,14 @@ place-pack run k =
 track-is : (p : Place) (t : List ℕ) → placeAfter p t .track ≡ p .track + titleCount t
 unfolding placeAfter titleCount
 track-is p [] = omega arith
-track-is p (x ∷ t) = track-is (nextPlace p x) t ∙ step (eqb x 0) p (titleCount t)
-  where
-    step : (b : Bool) (p : Place) (n : ℕ) → (if {A = Place} b (record { track = p .track + 1; count = 0 }) (record { track = p .track; count = p .count + 1 })) .track + n ≡ p .track + (if b 1 0 + n)
-    step true p n = omega arith
-    step false p n = omega arith
+track-is p (x ∷ t) = track-is (nextPlace p x) t ∙ known (eqb x 0) (λ e. rw e (omega arith)) (λ e. rw e (omega arith))
 
 pub count-under : (p : Place) (t : List ℕ) → placeAfter p t .count ≤ p .count + length t
 unfolding placeAfter
 count-under p [] = omega arith
-count-under p (x ∷ t) = let h = count-under (nextPlace p x) t in step (eqb x 0) p t h
-  where
-    step : (b : Bool) (p : Place) (t : List ℕ) {n : ℕ} → n ≤ (if {A = Place} b (record { track = p .track + 1; count = 0 }) (record { track = p .track; count = p .count + 1 })) .count + length t → n ≤ p .count + suc (length t)
-    step true p t h = omega arith
-    step false p t h = omega arith
+count-under p (x ∷ t) =
+    let h : nextPlace p x .count ≤ p .count + 1 = known (eqb x 0) (λ e. rw e (omega arith)) (λ e. rw e (omega arith)) in
+    omega (arith, count-under (nextPlace p x) t)
 
 titles-append : (s t : List ℕ) → titleCount (s ++ t) ≡ titleCount s + titleCount t
 unfolding titleCount

@@ -9,7 +9,8 @@ use lib.ListN.{length, take, drop, length-drop, length-take}
 use lib.Seq.{take-all}
 use borrow.Author.Tests.{leb-true, leb-false}
 use Rattle.mmc.proofs.bytes.Steps.{known}
-use Rattle.cdtext.specs.Packs.{pack, placeAfter, placeAt, firstPlace, textPack, textPacks, packsFor, Fits}
+use Rattle.cdtext.specs.Titles.{mostTitles}
+use Rattle.cdtext.specs.Packs.{longestRun, pack, placeAfter, placeAt, firstPlace, textPack, textPacks, packsFor, Fits}
 use Rattle.cdtext.specs.declared.packs.Place.{Place}
 use Rattle.cdtext.proofs.packs.Steps.{put-more}
 use Rattle.cdtext.proofs.packs.Places.{place-pack, track-under, count-under}
@@ -23,8 +24,8 @@ pub record Putting (run : List ℕ) (n : ℕ) (d out : List ℕ) (place : Place)
   pub long : length out ≡ length d
   pub done : out ≡ textPacks run k ++ drop (18 * k) d
   pub here : place ≡ placeAt run k
-  pub track : place .track ≤ 100
-  pub count : place .count ≤ 3024
+  pub track : place .track ≤ 1 + mostTitles
+  pub count : place .count ≤ longestRun
 
 pub putting-start : (run : List ℕ) (n : ℕ) (d : List ℕ) → Fits run (length d) → n ≡ packsFor run → Putting run n d d firstPlace 0
 unfolding textPacks placeAfter

@@ -13,7 +13,7 @@ use Rattle.mmc.specs.declared.refusals.Made.{Made}
 use Rattle.mmc.specs.declared.refusals.Made.the-variants as L
 use Rattle.mmc.specs.declared.refusals.Refusal.{Refusal}
 use Rattle.mmc.proofs.bytes.Steps.{both, zeros, drop-zeros}
-use Rattle.cdtext.specs.Packs.{packs, textIn, trimmed, runIn, packsSize, areBytes, isPacks, readPacks, FillsTitles, ReadsPacks}
+use Rattle.cdtext.specs.Packs.{mostPacks, packs, textIn, trimmed, runIn, packsSize, areBytes, isPacks, readPacks, FillsTitles, ReadsPacks}
 use Rattle.cdtext.specs.Refusals.{readOf}
 use Rattle.cdtext.specs.declared.refusals.Read.{Read}
 use Rattle.cdtext.specs.declared.refusals.Read.the-variants as R
@@ -22,32 +22,37 @@ use Rattle.cdtext.proofs.packs.Reading.{text-length, cut-zeros, cut-und
 use Rattle.cdtext.proofs.packs.Laws.{made, reads-back}
 
 -- what a length that packs can have says
-pub sized : (n : ℕ) → packsSize n ≡ true → (72 ≤ n) × (n ≤ 4590) × (n % 18 ≡ 0)
+pub sized : (n : ℕ) → packsSize n ≡ true → (72 ≤ n) × (n ≤ 18 * mostPacks) × (n % 18 ≡ 0)
 unfolding packsSize
 sized n e =
-    let w = both (leb 72 n) (leb n 4590 && eqb (n % 18) 0) e in
-    let v = both (leb n 4590) (eqb (n % 18) 0) (w .1) in
-    (leb-true 72 n (w .0), leb-true n 4590 (v .0), eqb-true (n % 18) 0 (v .1))
+    let w = both (leb 72 n) _ e in
+    let v = both (leb n _) (eqb (n % 18) 0) (w .1) in
+    let h = leb-true n _ (v .0) in
+    (leb-true 72 n (w .0), omega arith, eqb-true (n % 18) 0 (v .1))
+
+-- the reader's room for the text of the most packs, and for one zero
+abbrev room : ℕ
+room = 12 * (mostPacks - 3) + 1
 
 -- the text over zeros, up to one byte behind its last that is not zero
-pub run-is : (b text : List ℕ) (e : ℕ) → packsSize (length b) ≡ true → text ≡ textIn (length b / 18 - 3) b ++ drop (12 * (length b / 18 - 3)) (replicate 3025 0) → e ≡ length (trimmed text) → take (e + 1 - 0) text ≡ runIn b
+pub run-is : (b text : List ℕ) (e : ℕ) → packsSize (length b) ≡ true → text ≡ textIn (length b / 18 - 3) b ++ drop (12 * (length b / 18 - 3)) (replicate room 0) → e ≡ length (trimmed text) → take (e + 1 - 0) text ≡ runIn b
 unfolding runIn
 run-is b text e s et ee =
     let w = sized (length b) s in
     let k : ℕ = length b / 18 - 3 in
     let t = textIn k b in
-    let z : text ≡ t ++ zeros (3025 - 12 * k) = et ∙ ap (λ (l : List ℕ). t ++ l) (drop-zeros (12 * k) 3025 (omega arith)) in
-    let l : e ≡ length (trimmed t) = ee ∙ ap length (ap trimmed z ∙ cut-zeros (3025 - 12 * k) t) in
+    let z : text ≡ t ++ zeros (room - 12 * k) = et ∙ ap (λ (l : List ℕ). t ++ l) (drop-zeros (12 * k) room (omega arith)) in
+    let l : e ≡ length (trimmed t) = ee ∙ ap length (ap trimmed z ∙ cut-zeros (room - 12 * k) t) in
     let j : e + 1 - 0 ≡ length (trimmed t) + 1 = omega arith in
-    ap (take (e + 1 - 0)) z ∙ ap (λ (n : ℕ). take n (t ++ zeros (3025 - 12 * k))) j ∙ one-more t (3025 - 12 * k) (omega arith)
+    ap (take (e + 1 - 0)) z ∙ ap (λ (n : ℕ). take n (t ++ zeros (room - 12 * k))) j ∙ one-more t (room - 12 * k) (omega arith)
 
 -- that byte lies in the text
-pub run-ends : (b text : List ℕ) → packsSize (length b) ≡ true → text ≡ textIn (length b / 18 - 3) b ++ drop (12 * (length b / 18 - 3)) (replicate 3025 0) → length (trimmed text) + 1 ≤ 3025
+pub run-ends : (b text : List ℕ) → packsSize (length b) ≡ true → text ≡ textIn (length b / 18 - 3) b ++ drop (12 * (length b / 18 - 3)) (replicate room 0) → length (trimmed text) + 1 ≤ room
 run-ends b text s et =
     let w = sized (length b) s in
     let k : ℕ = length b / 18 - 3 in
     let t = textIn k b in
-    let l = ap length (ap trimmed (et ∙ ap (λ (l : List ℕ). t ++ l) (drop-zeros (12 * k) 3025 (omega arith))) ∙ cut-zeros (3025 - 12 * k) t) in
+    let l = ap length (ap trimmed (et ∙ ap (λ (l : List ℕ). t ++ l) (drop-zeros (12 * k) room (omega arith))) ∙ cut-zeros (room - 12 * k) t) in
     omega (arith, l, text-length k b (omega arith), cut-under t)
 
 -- ---- what is read

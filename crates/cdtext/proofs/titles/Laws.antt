@@ -9,7 +9,7 @@ use lib.ListN.{length, length-append}
 use lib.Seq.{append-snoc}
 use borrow.Author.Tests.{eqb-true, ne-eqb, leb-true, le-leb}
 use Rattle.mmc.proofs.bytes.Steps.{both, known}
-use Rattle.cdtext.specs.Titles.{isCharacter, titleLength, titlesFrom, titleCount, allowed, allCharacters, allTitles, runOf}
+use Rattle.cdtext.specs.Titles.{isCharacter, titleLength, titlesFrom, titleCount, mostTitles, allowed, allCharacters, allTitles, runOf}
 use Rattle.cdtext.specs.Packs.{IsRun}
 
 -- ---- from the run to its titles
@@ -73,12 +73,12 @@ cut (x ∷ xs) t a h = known (eqb x 0)
 pub titles : (run : List ℕ) → allowed run ≡ true → (ts : List (List ℕ)) × IsRun run ts
 unfolding allowed
 titles run h =
-    let w = both (titlesFrom 0 run) (leb 1 (titleCount run) && leb (titleCount run) 99) h in
-    let v = both (leb 1 (titleCount run)) (leb (titleCount run) 99) (w .1) in
+    let w = both (titlesFrom 0 run) (leb 1 (titleCount run) && leb (titleCount run) mostTitles) h in
+    let v = both (leb 1 (titleCount run)) (leb (titleCount run) mostTitles) (w .1) in
     let r = cut run [] no-characters (w .0) in
     let n : titleCount run ≡ length (r .0) = r .1 .count in
     let low : 1 ≤ titleCount run = leb-true 1 (titleCount run) (v .0) in
-    let high : titleCount run ≤ 99 = leb-true (titleCount run) 99 (v .1) in
+    let high : titleCount run ≤ mostTitles = leb-true (titleCount run) mostTitles (v .1) in
     (r .0, record { packed = r .1 .packed; good = r .1 .good; some = omega arith; few = omega arith })
 
 -- ---- from titles to their run
@@ -121,5 +121,6 @@ allows run ts i =
     let r = run-good ts (i .good) in
     let n : titleCount (runOf ts) ≡ length ts = r .1 in
     let low : leb 1 (length ts) ≡ true = le-leb 1 (length ts) (i .some) in
-    let high : leb (length ts) 99 ≡ true = le-leb (length ts) 99 (i .few) in
+    let few = i .few in
+    let high : leb (length ts) mostTitles ≡ true = le-leb (length ts) mostTitles (omega arith) in
     (rw (i .packed, r .0, n, low, high), ap titleCount (i .packed) ∙ n)

@@ -9,7 +9,7 @@ use lib.ListN.{length, getD, drop, drop-of-length-le}
 use borrow.Author.Tests.{eq-eqb, ne-eqb, le-leb, lt-leb, leb-false}
 use Rattle.mmc.specs.Bytes.{if}
 use Rattle.mmc.proofs.bytes.Steps.{drop-next, known}
-use Rattle.cdtext.specs.Titles.{isCharacter, titleLength, titlesFrom, titleCount, allowed}
+use Rattle.cdtext.specs.Titles.{isCharacter, titleLength, titlesFrom, titleCount, mostTitles, allowed}
 
 -- the first i bytes have been read: they end n titles, and c characters of the next stand among them
 pub record Counting (run : List ℕ) (n c i : ℕ) : Type 0 where
@@ -82,22 +82,22 @@ pub unended : (run : List ℕ) (n c i : ℕ) → Counting run n c i → length r
 unended run n c i v h k = not-from run (from-end run n c i v h ∙ ne-eqb c 0 k)
 
 -- too many titles
-pub many : (run : List ℕ) (n c i : ℕ) → Counting run n c i → length run ≤ i → c ≡ 0 → 99 < n → 0 ≡ found run
+pub many : (run : List ℕ) (n c i : ℕ) → Counting run n c i → length run ≤ i → c ≡ 0 → mostTitles < n → 0 ≡ found run
 unfolding allowed
 many run n c i v h k m =
     let e = count-end run n c i v h in
-    rw (from-end run n c i v h, eq-eqb c 0 k, lt-leb (titleCount run) 99 (omega arith)) (none (leb 1 (titleCount run)))
+    rw (from-end run n c i v h, eq-eqb c 0 k, lt-leb (titleCount run) mostTitles (omega arith)) (none (leb 1 (titleCount run)))
   where
     none : (b : Bool) → 0 ≡ if (b && false) (titleCount run) 0
     none true = refl
     none false = refl
 
 -- all is well, but for a run of no title
-pub ended : (run : List ℕ) (n c i : ℕ) → Counting run n c i → length run ≤ i → c ≡ 0 → n ≤ 99 → n ≡ found run
+pub ended : (run : List ℕ) (n c i : ℕ) → Counting run n c i → length run ≤ i → c ≡ 0 → n ≤ mostTitles → n ≡ found run
 unfolding allowed
 ended run n c i v h k m =
     let e = count-end run n c i v h in
-    rw (from-end run n c i v h, eq-eqb c 0 k, le-leb (titleCount run) 99 (omega arith), e) (some (titleCount run))
+    rw (from-end run n c i v h, eq-eqb c 0 k, le-leb (titleCount run) mostTitles (omega arith), e) (some (titleCount run))
   where
     some : (t : ℕ) → t ≡ if (leb 1 t && true) t 0
     some t = known (leb 1 t) (λ e. rw e) (λ e. let z : t ≡ 0 = omega (arith, leb-false 1 t e) in rw (e, z))

@@ -6,7 +6,7 @@ use lib.Bits.{bitXor, xor-lt}
 use lib.ListN.{length, getD, drop, drop-of-length-le}
 use borrow.Author.Needs.{needs}
 use Rattle.mmc.proofs.bytes.Steps.{drop-next}
-use Rattle.cdtext.specs.Check.{AreRemainders, remainderFrom, checkOf}
+use Rattle.cdtext.specs.Check.{AreRemainders, remainderFrom, inverted, checkOf}
 use Rattle.cdtext.proofs.check.Xor.{byte-law, step-lt}
 use Rattle.cdtext.proofs.check.check_of.Statement.{statement}
 use Rattle.cdtext.proofs.check.check_of.Tie as tie
@@ -24,9 +24,9 @@ next-lt : (table : List ℕ) (r k : ℕ) → AreRemainders table → k < 256 →
 next-lt table r k t h = xor-lt 16 (r * 256 % 65536) (getD table k 0) (omega arith) (rw (t .each k h) (step-lt _))
 
 -- no byte is left
-check-end : (r : ℕ) (b : List ℕ) (i : ℕ) → length b ≤ i → remainderFrom r (drop i b) ≡ remainderFrom 0 b → 65535 - r ≡ checkOf b
+check-end : (r : ℕ) (b : List ℕ) (i : ℕ) → length b ≤ i → remainderFrom r (drop i b) ≡ remainderFrom 0 b → inverted r ≡ checkOf b
 unfolding remainderFrom checkOf
-check-end r b i h e = ap (λ (x : ℕ). 65535 - x) (ap (remainderFrom r) (sym (drop-of-length-le b h)) ∙ e)
+check-end r b i h e = ap inverted (ap (remainderFrom r) (sym (drop-of-length-le b h)) ∙ e)
 
 abbrev Inv-loop : tie.InvT-loop
 Inv-loop b table r₀ i₀ r i = (i ≤ length b) × (r < 65536) × (remainderFrom r (drop i b) ≡ remainderFrom 0 b)

@@ -1,6 +1,5 @@
 use mathlib.Core.Bool.{true}
 use mathlib.Core.Path.{_≡_, _∙_}
-use lib.ListN.{replicate}
 use borrow.Author.Needs.{needs}
 use Rattle.cdtext.specs.Titles.{allowed, titleCount}
 use Rattle.cdtext.proofs.packs.Making.{counted, none, too-many, passed, fits, other-length, as-packs}
@@ -55,7 +54,7 @@ put-packs-requires c κs =
     let a = e .before .before .before .before .args in
     let run = a .run .now in
     let w = good e in
-    (fits run 4590 (w .0) (p .before .if2 .left) (search needs), w .1)
+    (fits run _ (w .0) (p .before .if2 .left) (search needs), w .1)
 
 sub-same : tie.Need-sub-same
 sub-same c = search needs
@@ -78,7 +77,7 @@ returns-4 c =
     let a = e .before .before .before .before .args in
     let run = a .run .now in
     let w = good e in
-    as-packs run (replicate 4590 0) (u .put-packs .last .1 .1 .0) (a .b .now) (c .same .result) (passed run (w .0) (p .before .if2 .left)) (u .put-packs .ensures) (q .if3 .left ∙ rw (p .packs-for .ensures)) (c .same .ensures)
+    as-packs run _ (u .put-packs .last .1 .1 .0) (a .b .now) (c .same .result) (passed run (w .0) (p .before .if2 .left)) (u .put-packs .ensures) (q .if3 .left ∙ rw (p .packs-for .ensures)) (c .same .ensures)
 
 pub gives-spec : {M : Type 1} → statement M
 gives-spec =
