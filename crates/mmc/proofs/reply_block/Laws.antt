@@ -113,8 +113,8 @@ body-is (a ∷ s ∷ []) u n f = absurd (omega arith)
 body-is (a ∷ s ∷ h ∷ []) u n f = absurd (omega arith)
 body-is (a ∷ s ∷ h ∷ l ∷ r) u n f =
     let k : ℕ = h * 256 + l in
-    let p = both (eqb a 2) (leb s 1 && (leb k 506 && allZero (take (506 - k) (drop (4 + k) (a ∷ s ∷ h ∷ l ∷ r))))) f in
-    let q = both (leb s 1) (leb k 506 && allZero (take (506 - k) (drop (4 + k) (a ∷ s ∷ h ∷ l ∷ r)))) (p .1) in
+    let p = both (eqb a 2) (leb s _ && (leb k 506 && allZero (take (506 - k) (drop (4 + k) (a ∷ s ∷ h ∷ l ∷ r))))) f in
+    let q = both (leb s _) (leb k 506 && allZero (take (506 - k) (drop (4 + k) (a ∷ s ∷ h ∷ l ∷ r)))) (p .1) in
     let z = both (leb k 506) (allZero (take (506 - k) (drop (4 + k) (a ∷ s ∷ h ∷ l ∷ r)))) (q .1) in
     let m : k ≤ 506 = leb-true k 506 (z .0) in
     let len : length (take k r) ≡ k = length-take-le k r (omega arith) in
@@ -125,7 +125,7 @@ body-is (a ∷ s ∷ h ∷ l ∷ r) u n f =
     let t : take 506 r ≡ take k r ++ zeros (506 - k) = ap (λ (j : ℕ). take j r) e ∙ take-add k (506 - k) r ∙ rw g in
     let hi : k / 256 ≡ h = omega (arith, u 3) in
     let lo : k % 256 ≡ l = omega (arith, u 3) in
-    (rw (len, hi, lo, t, eqb-true a 2 (p .0), status-is s (leb-true s 1 (q .0))), omega (arith, len))
+    (rw (len, hi, lo, t, eqb-true a 2 (p .0), status-is s (omega (arith, leb-true s _ (q .0)))), omega (arith, len))
 
 -- every block that is read is the one that is written of the reply read
 pub written : (b : List ℕ) → Bytes b → (x : Reply) → readReply b ≡ pass x → replyBlock x ≡ pass b
