@@ -21,9 +21,12 @@ status-back : (g : Bool) → eqb (statusByte g) 0 ≡ g
 status-back true = refl
 status-back false = refl
 
-status-small : (g : Bool) → leb (statusByte g) 1 ≡ true
-status-small true = refl
-status-small false = refl
+status-small : (g : Bool) → statusByte g ≤ 1
+status-small true = omega arith
+status-small false = omega arith
+
+ends-true : {a : Bool} → a ≡ true → (a && true) ≡ true
+ends-true e = simp e
 
 status-is : (n : ℕ) → n ≤ 1 → statusByte (eqb n 0) ≡ n
 status-is zero h = refl
@@ -84,7 +87,7 @@ module _ (x : Reply) (few : length (x .bytes) ≤ 506) where
       let a : getD (replyBytes x) 0 0 ≡ 2 = ap (λ (l : List ℕ). getD l 0 0) laid ∙ h .0 in
       let s : getD (replyBytes x) 1 0 ≡ statusByte (x .good) = ap (λ (l : List ℕ). getD l 1 0) laid ∙ h .1 in
       let b : take n (drop 4 (replyBytes x)) ≡ x .bytes = ap (λ (l : List ℕ). take n (drop 4 l)) laid ∙ ap (take n) (h .3) ∙ take-at (x .bytes) t n refl in
-      simp (d, a, s, b, rest-zero, status-small (x .good), status-back (x .good), le-leb n 506 few) (read-listed (replyBytes x) true x no-fault refl)
+      simp (d, a, s, b, rest-zero, status-back (x .good), le-leb n 506 few) (read-listed (replyBytes x) _ x no-fault (ends-true (le-leb (statusByte (x .good)) _ (omega (arith, status-small (x .good))))))
 
 -- every reply that is written reads back to itself
 pub reads-back : (x : Reply) (b : List ℕ) → replyBlock x ≡ pass b → readReply b ≡ pass x

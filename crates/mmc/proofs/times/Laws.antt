@@ -3,7 +3,7 @@ use Prim.Native.Nat.{suc, _+_, _-_, _*_, _/_, _%_, _<_, _≤_}
 use native.Mathlib.Omega.{arith}
 use native.Mathlib.Decide.{decLt}
 use mathlib.Core.Path.{_≡_, sym, ap, _∙_}
-use mathlib.Core.Bool.{true, false, _&&_}
+use mathlib.Core.Bool.{Bool, true, false, _&&_}
 use mathlib.Core.Logic.{⊎-elim}
 use lib.IntN.{ℤ, pos, _+ℤ_, _-ℤ_, natAbs, +ℤ-negℤ-cancel, -ℤ-+ℤ-cancel}
 use lib.Dec.{leb}
@@ -31,7 +31,10 @@ count-back f =
 
 clock-is-time : (f : FrameCount) → f .0 < 450000 → isTime (clock f) ≡ true
 unfolding isTime
-clock-is-time f h = simp (le-leb (clock f .minute) 99 (omega arith), le-leb (clock f .second) 59 (omega arith), le-leb (clock f .frame) 74 (omega arith))
+clock-is-time f h = all (le-leb (clock f .minute) _ (omega arith)) (le-leb (clock f .second) _ (omega arith)) (le-leb (clock f .frame) _ (omega arith))
+  where
+    all : {a b c : Bool} → a ≡ true → b ≡ true → c ≡ true → (a && (b && c)) ≡ true
+    all x y z = simp (x, y, z)
 
 clock-back : (t : Time) → isTime t ≡ true → clock (framesOf t) ≡ t
 clock-back t h =
