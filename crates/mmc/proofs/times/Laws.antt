@@ -41,8 +41,11 @@ clock-back t h =
     let w = time-parts t h in
     let m : clock (framesOf t) .minute ≡ t .minute = omega (arith, w) in
     let s : clock (framesOf t) .second ≡ t .second = omega (arith, w) in
-    let f : clock (framesOf t) .frame ≡ t .frame = omega (arith, w) in
-    simp (m, s, f)
+    let a : clock (framesOf t) .minute + clock (framesOf t) .second + clock (framesOf t) .frame ≡ t .minute + t .second + t .frame = simp (m, s) (omega (arith, w)) in
+    same (clock (framesOf t)) t m s a
+  where
+    same : (t u : Time) → t .minute ≡ u .minute → t .second ≡ u .second → t .minute + t .second + t .frame ≡ u .minute + u .second + u .frame → t ≡ u
+    same t u m s a = let f : t .frame ≡ u .frame = omega (arith, m, s, a) in rw (m, s, f)
 
 pub frames-small : (t : Time) → isTime t ≡ true → framesOf t .0 < 450000
 frames-small t h = omega (arith, time-parts t h)
