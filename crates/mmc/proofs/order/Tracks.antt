@@ -47,8 +47,7 @@ module _ (ts : List Track) (n i : ℕ) (h : i < n) (k : n ≤ length ts) where
   unfolding allKind
   kind-next x = ap (allKind x) (in-next ts n i h k)
 
-  pub long-next : allLong (drop i (take n ts)) ≡ (leb leastBlocks (getD ts i noTrack .length .0) && allLong (drop (i + 1) (take n ts)))
-  unfolding allLong
+  pub long-next : allLong (drop i (take n ts)) ≡ allLong (getD ts i noTrack ∷ drop (i + 1) (take n ts))
   long-next = ap allLong (in-next ts n i h k)
 
   pub blocks-next : blocksOf (drop i (take n ts)) ≡ getD ts i noTrack .length .0 + blocksOf (drop (i + 1) (take n ts))
@@ -79,5 +78,5 @@ capped ts n z = by (decLe n 99)
 pub valid-few : (o : Order) → validOrder o ≡ true → o .count ≤ 99
 unfolding validOrder
 valid-few o v =
-    let w = both (leb 1 (o .count)) (leb (o .count) 99 && allNone (drop (o .count) (o .tracks))) v in
-    leb-true (o .count) 99 (both (leb (o .count) 99) (allNone (drop (o .count) (o .tracks))) (w .1) .0)
+    let w = both (leb _ (o .count)) (leb (o .count) _ && allNone (drop (o .count) (o .tracks))) v in
+    omega (arith, leb-true (o .count) _ (both (leb (o .count) _) (allNone (drop (o .count) (o .tracks))) (w .1) .0))

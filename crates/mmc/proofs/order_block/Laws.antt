@@ -10,7 +10,7 @@ use lib.ListN.{length, take, drop, replicate, length-drop}
 use lib.Seq.{drop-at, take-add, length-take-le}
 use Rattle.mmc.specs.Block.{sealed, checkSum, blockFault}
 use Rattle.mmc.specs.Bytes.{bytes32, be32, allZero}
-use Rattle.mmc.specs.OrderBlock.{orderBlock, methodByte, methodOf, flagsByte, keepOf, protectOf, headOk, row, rows, orderBody, orderBytes, kindByte, kindOf, kindsOk, trackOf, tracksOf, fieldsOf, orderOk, readOrder}
+use Rattle.mmc.specs.OrderBlock.{orderBlock, methodByte, methodOf, flagsByte, keepOf, protectOf, lastMethod, lastFlags, headOk, row, rows, orderBody, orderBytes, kindByte, kindOf, kindsOk, trackOf, tracksOf, fieldsOf, orderOk, readOrder}
 use Rattle.mmc.specs.Order.{validOrder}
 use Rattle.mmc.proofs.order_block.Rows.{body-length, rows-495}
 use Rattle.mmc.proofs.block.Laws.{sealed-ok, sealed-is, fault-length, read-listed, read-passed}
@@ -154,10 +154,10 @@ body-is (a ∷ b ∷ c ∷ d ∷ x) u n f g z =
     let m : length (take 11 (drop 495 x)) ≡ 11 = length-take-le 11 (drop 495 x) (omega (arith, length-drop 495 x)) in
     let y : take 11 (drop 495 x) ≡ replicate 11 0 = zeros-are (take 11 (drop 495 x)) z ∙ ap (λ (k : ℕ). replicate k 0) m in
     let w : take 506 x ≡ rows (tracksOf 99 x) ++ replicate 11 0 = take-add 495 11 x ∙ rw (r, y) in
-    let p = both (eqb a 1 && leb 1 b) (leb b 2 && leb c 3) f in
+    let p = both (eqb a 1 && leb 1 b) (leb b lastMethod && leb c lastFlags) f in
     let q = both (eqb a 1) (leb 1 b) (p .0) in
-    let s = both (leb b 2) (leb c 3) (p .1) in
-    rw (eqb-true a 1 (q .0), w, method-is b (leb-true 1 b (q .1)) (leb-true b 2 (s .0)), flags-is c (leb-true c 3 (s .1)))
+    let s = both (leb b lastMethod) (leb c lastFlags) (p .1) in
+    rw (eqb-true a 1 (q .0), w, method-is b (leb-true 1 b (q .1)) (leb-true b lastMethod (s .0)), flags-is c (omega (arith, leb-true c lastFlags (s .1))))
 
 -- ---- what the contracts carry
 

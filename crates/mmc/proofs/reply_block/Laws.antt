@@ -21,9 +21,12 @@ status-back : (g : Bool) → eqb (statusByte g) 0 ≡ g
 status-back true = refl
 status-back false = refl
 
-status-small : (g : Bool) → leb (statusByte g) 1 ≡ true
-status-small true = refl
-status-small false = refl
+status-small : (g : Bool) → statusByte g ≤ 1
+status-small true = omega arith
+status-small false = omega arith
+
+ends-true : {a : Bool} → a ≡ true → (a && true) ≡ true
+ends-true e = simp e
 
 status-is : (n : ℕ) → n ≤ 1 → statusByte (eqb n 0) ≡ n
 status-is zero h = refl
@@ -84,7 +87,7 @@ module _ (x : Reply) (few : length (x .bytes) ≤ 506) where
       let a : getD (replyBytes x) 0 0 ≡ 2 = ap (λ (l : List ℕ). getD l 0 0) laid ∙ h .0 in
       let s : getD (replyBytes x) 1 0 ≡ statusByte (x .good) = ap (λ (l : List ℕ). getD l 1 0) laid ∙ h .1 in
       let b : take n (drop 4 (replyBytes x)) ≡ x .bytes = ap (λ (l : List ℕ). take n (drop 4 l)) laid ∙ ap (take n) (h .3) ∙ take-at (x .bytes) t n refl in
-      simp (d, a, s, b, rest-zero, status-small (x .good), status-back (x .good), le-leb n 506 few) (read-listed (replyBytes x) true x no-fault refl)
+      simp (d, a, s, b, rest-zero, status-back (x .good), le-leb n 506 few) (read-listed (replyBytes x) _ x no-fault (ends-true (le-leb (statusByte (x .good)) _ (omega (arith, status-small (x .good))))))
 
 -- every reply that is written reads back to itself
 pub reads-back : (x : Reply) (b : List ℕ) → replyBlock x ≡ pass b → readReply b ≡ pass x
@@ -113,8 +116,8 @@ body-is (a ∷ s ∷ []) u n f = absurd (omega arith)
 body-is (a ∷ s ∷ h ∷ []) u n f = absurd (omega arith)
 body-is (a ∷ s ∷ h ∷ l ∷ r) u n f =
     let k : ℕ = h * 256 + l in
-    let p = both (eqb a 2) (leb s 1 && (leb k 506 && allZero (take (506 - k) (drop (4 + k) (a ∷ s ∷ h ∷ l ∷ r))))) f in
-    let q = both (leb s 1) (leb k 506 && allZero (take (506 - k) (drop (4 + k) (a ∷ s ∷ h ∷ l ∷ r)))) (p .1) in
+    let p = both (eqb a 2) (leb s _ && (leb k 506 && allZero (take (506 - k) (drop (4 + k) (a ∷ s ∷ h ∷ l ∷ r))))) f in
+    let q = both (leb s _) (leb k 506 && allZero (take (506 - k) (drop (4 + k) (a ∷ s ∷ h ∷ l ∷ r)))) (p .1) in
     let z = both (leb k 506) (allZero (take (506 - k) (drop (4 + k) (a ∷ s ∷ h ∷ l ∷ r)))) (q .1) in
     let m : k ≤ 506 = leb-true k 506 (z .0) in
     let len : length (take k r) ≡ k = length-take-le k r (omega arith) in
@@ -125,7 +128,7 @@ body-is (a ∷ s ∷ h ∷ l ∷ r) u n f =
     let t : take 506 r ≡ take k r ++ zeros (506 - k) = ap (λ (j : ℕ). take j r) e ∙ take-add k (506 - k) r ∙ rw g in
     let hi : k / 256 ≡ h = omega (arith, u 3) in
     let lo : k % 256 ≡ l = omega (arith, u 3) in
-    (rw (len, hi, lo, t, eqb-true a 2 (p .0), status-is s (leb-true s 1 (q .0))), omega (arith, len))
+    (rw (len, hi, lo, t, eqb-true a 2 (p .0), status-is s (omega (arith, leb-true s _ (q .0)))), omega (arith, len))
 
 -- every block that is read is the one that is written of the reply read
 pub written : (b : List ℕ) → Bytes b → (x : Reply) → readReply b ≡ pass x → replyBlock x ≡ pass b

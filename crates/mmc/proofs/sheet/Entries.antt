@@ -2,7 +2,7 @@
 use mathlib.Core.Path.{_≡_, refl, sym, ap, _∙_}
 use mathlib.Core.List.{List, [], _∷_, _++_, append-assoc}
 use mathlib.Core.Bool.{Bool, true, false}
-use Prim.Native.Nat.{ℕ, _+_, _*_, _-_, _≤_, _<_}
+use Prim.Native.Nat.{ℕ, suc, _+_, _*_, _-_, _≤_, _<_}
 use native.Mathlib.Omega.{arith}
 use lib.ListN.{length, getD, take, drop, length-append}
 use lib.Seq.{length-take-le, drop-drop}
@@ -148,29 +148,25 @@ pub record Sheeted (o : Order) : Type 0 where
   pub closed : o .keep ≡ false
   pub kinds : allKind (orderKind o) (tracksIn o) ≡ true
   pub long : allLong (tracksIn o) ≡ true
-  pub ends : leb (blocksOf (tracksIn o)) lastAddress ≡ true
+  pub ends : blocksOf (tracksIn o) ≤ lastAddress
 
-cascade : (v s p k l e : Bool) → _≡_ {A = ℕ} (if v (if s (if p 8 (if k (if l (if e 0 10) 9) 8)) 3) 3) 0
+cascade : (n : ℕ) (v s p k l e : Bool) → _≡_ {A = ℕ} (if v (if s (if p 8 (if k (if l (if e 0 (suc n)) 9) 8)) 3) 3) 0
     → (v ≡ true) × (s ≡ true) × (p ≡ false) × (k ≡ true) × (l ≡ true) × (e ≡ true)
-cascade true true false true true true h = (refl, refl, refl, refl, refl, refl)
-cascade true true false true true false h = absurd (omega arith)
-cascade true true false true false e h = absurd (omega arith)
-cascade true true false false l e h = absurd (omega arith)
-cascade true true true k l e h = absurd (omega arith)
-cascade true false p k l e h = absurd (omega arith)
-cascade false s p k l e h = absurd (omega arith)
+cascade n true true false true true true h = (refl, refl, refl, refl, refl, refl)
+cascade n true true false true true false h = absurd (omega arith)
+cascade n true true false true false e h = absurd (omega arith)
+cascade n true true false false l e h = absurd (omega arith)
+cascade n true true true k l e h = absurd (omega arith)
+cascade n true false p k l e h = absurd (omega arith)
+cascade n false s p k l e h = absurd (omega arith)
 
 pub sheeted : (o : Order) → sheetFault o ≡ 0 → Sheeted o
 unfolding sheetFault
 sheeted o h =
-    let w = cascade (validOrder o) (isSao (o .method)) (o .keep) (allKind (orderKind o) (tracksIn o)) (allLong (tracksIn o)) (leb (blocksOf (tracksIn o)) lastAddress) h in
-    record { valid = w .0; sao = w .1; closed = w .2; kinds = w .3; long = w .4; ends = w .5 }
-
-pub faultless : (o : Order) → Sheeted o → sheetFault o ≡ 0
-unfolding sheetFault
-faultless o s = simp (s .valid, s .sao, s .closed, s .kinds, s .long, s .ends)
+    let w = cascade _ (validOrder o) (isSao (o .method)) (o .keep) (allKind (orderKind o) (tracksIn o)) (allLong (tracksIn o)) (leb (blocksOf (tracksIn o)) _) h in
+    record { valid = w .0; sao = w .1; closed = w .2; kinds = w .3; long = w .4; ends = omega (arith, leb-true (blocksOf (tracksIn o)) _ (w .5)) }
 
 pub fits : (o : Order) (room : ℕ) → sheetFault o ≡ 0 → 8 * (o .count + 3) ≤ room → Fits o room
 fits o room h r =
     let s = sheeted o h in
-    record { few = valid-few o (s .valid); ends = leb-true (blocksOf (tracksIn o)) lastAddress (s .ends); holds = r }
+    record { few = valid-few o (s .valid); ends = s .ends; holds = r }

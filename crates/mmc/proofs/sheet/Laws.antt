@@ -11,7 +11,7 @@ use lib.Seq.{length-take-le}
 use Rattle.mmc.specs.Bytes.{if, sameBytes}
 use Rattle.mmc.specs.Order.{noTrack, isNone, isAudio, allNone, validOrder, sameKind, tracksIn, orderKind, allKind, allLong, leastBlocks}
 use Rattle.mmc.specs.Sheet.{sheetFault, controlOf, entry, leadIn, pauseOf, startOf, leadOut, trackEntries, sheetOf, sheetLength, framesIn, kindIn, trackIn, lengthsIn, countIn, orderIn, sheetSize, isSheet, readSheet, cueSheet, sheetFor, orderFor, timesIn, Below, Rising, Ordered}
-use Rattle.mmc.proofs.sheet.Entries.{entries-length, Sheeted, sheeted, faultless}
+use Rattle.mmc.proofs.sheet.Entries.{entries-length, Sheeted, sheeted}
 use Rattle.mmc.proofs.bytes.Steps.{both, known, same-is, same-refl}
 use Rattle.mmc.specs.Refusals.{pass, refuse}
 use Rattle.mmc.specs.declared.order.Order.{Order}
@@ -100,9 +100,9 @@ module _ (o : Order) (z : length (o .tracks) ≡ 99) (f : sheetFault o ≡ 0) wh
   few : (1 ≤ o .count) × (o .count ≤ 99) × (allNone (drop (o .count) (o .tracks)) ≡ true)
   unfolding validOrder
   few =
-      let w = both (leb 1 (o .count)) (leb (o .count) 99 && allNone (drop (o .count) (o .tracks))) (s .valid) in
-      let v = both (leb (o .count) 99) (allNone (drop (o .count) (o .tracks))) (w .1) in
-      (leb-true 1 (o .count) (w .0), leb-true (o .count) 99 (v .0), v .1)
+      let w = both (leb _ (o .count)) (leb (o .count) _ && allNone (drop (o .count) (o .tracks))) (s .valid) in
+      let v = both (leb (o .count) _) (allNone (drop (o .count) (o .tracks))) (w .1) in
+      (omega (arith, leb-true _ (o .count) (w .0)), omega (arith, leb-true (o .count) _ (v .0)), v .1)
 
   tracks-are : length (tracksIn o) ≡ o .count
   tracks-are = length-take-le (o .count) (o .tracks) (omega (arith, few))
@@ -144,8 +144,8 @@ module _ (o : Order) (z : length (o .tracks) ≡ 99) (f : sheetFault o ≡ 0) wh
   order-back = rw (tracks-back, count-back)
 
   plain-fault : sheetFault (plain o) ≡ 0
-  unfolding validOrder
-  plain-fault = faultless (plain o) (record { valid = s .valid; sao = refl; closed = refl; kinds = s .kinds; long = s .long; ends = s .ends })
+  unfolding validOrder sheetFault
+  plain-fault = simp (s .sao, s .closed) at f
 
   plain-sheet : sheetOf (plain o) ≡ sheetOf o
   unfolding sheetOf

@@ -3,7 +3,7 @@ use Prim.Native.Nat.{suc, _+_, _-_, _*_, _/_, _%_, _<_, _≤_}
 use native.Mathlib.Omega.{arith}
 use native.Mathlib.Decide.{decLt}
 use mathlib.Core.Path.{_≡_, sym, ap, _∙_}
-use mathlib.Core.Bool.{true, false, _&&_}
+use mathlib.Core.Bool.{Bool, true, false, _&&_}
 use mathlib.Core.Logic.{⊎-elim}
 use lib.IntN.{ℤ, pos, _+ℤ_, _-ℤ_, natAbs, +ℤ-negℤ-cancel, -ℤ-+ℤ-cancel}
 use lib.Dec.{leb}
@@ -19,27 +19,33 @@ use Rattle.mmc.specs.declared.times.Time.{Time}
 time-parts : (t : Time) → isTime t ≡ true → (t .minute ≤ 99) × (t .second ≤ 59) × (t .frame ≤ 74)
 unfolding isTime
 time-parts t h =
-    let w = both (leb (t .minute) 99) (leb (t .second) 59 && leb (t .frame) 74) h in
-    let v = both (leb (t .second) 59) (leb (t .frame) 74) (w .1) in
-    (leb-true _ _ (w .0), leb-true _ _ (v .0), leb-true _ _ (v .1))
+    let w = both (leb (t .minute) _) (leb (t .second) _ && leb (t .frame) _) h in
+    let v = both (leb (t .second) _) (leb (t .frame) _) (w .1) in
+    (omega (arith, leb-true (t .minute) _ (w .0)), omega (arith, leb-true (t .second) _ (v .0)), omega (arith, leb-true (t .frame) _ (v .1)))
 
 -- a count of frames as a time, and back
 count-back : (f : FrameCount) → framesOf (clock f) ≡ f
 count-back f =
-    let e : (f .0 / 75 / 60 * 60 + f .0 / 75 % 60) * 75 + f .0 % 75 ≡ f .0 = omega arith in
+    let e : framesOf (clock f) .0 ≡ f .0 = omega arith in
     simp e
 
 clock-is-time : (f : FrameCount) → f .0 < 450000 → isTime (clock f) ≡ true
 unfolding isTime
-clock-is-time f h = simp (le-leb (f .0 / 75 / 60) 99 (omega arith), le-leb (f .0 / 75 % 60) 59 (omega arith), le-leb (f .0 % 75) 74 (omega arith))
+clock-is-time f h = all (le-leb (clock f .minute) _ (omega arith)) (le-leb (clock f .second) _ (omega arith)) (le-leb (clock f .frame) _ (omega arith))
+  where
+    all : {a b c : Bool} → a ≡ true → b ≡ true → c ≡ true → (a && (b && c)) ≡ true
+    all x y z = simp (x, y, z)
 
 clock-back : (t : Time) → isTime t ≡ true → clock (framesOf t) ≡ t
 clock-back t h =
     let w = time-parts t h in
-    let m : ((t .minute * 60 + t .second) * 75 + t .frame) / 75 / 60 ≡ t .minute = omega (arith, w) in
-    let s : ((t .minute * 60 + t .second) * 75 + t .frame) / 75 % 60 ≡ t .second = omega (arith, w) in
-    let f : ((t .minute * 60 + t .second) * 75 + t .frame) % 75 ≡ t .frame = omega (arith, w) in
-    simp (m, s, f)
+    let m : clock (framesOf t) .minute ≡ t .minute = omega (arith, w) in
+    let s : clock (framesOf t) .second ≡ t .second = omega (arith, w) in
+    let a : clock (framesOf t) .minute + clock (framesOf t) .second + clock (framesOf t) .frame ≡ t .minute + t .second + t .frame = simp (m, s) (omega (arith, w)) in
+    same (clock (framesOf t)) t m s a
+  where
+    same : (t u : Time) → t .minute ≡ u .minute → t .second ≡ u .second → t .minute + t .second + t .frame ≡ u .minute + u .second + u .frame → t ≡ u
+    same t u m s a = let f : t .frame ≡ u .frame = omega (arith, m, s, a) in rw (m, s, f)
 
 pub frames-small : (t : Time) → isTime t ≡ true → framesOf t .0 < 450000
 frames-small t h = omega (arith, time-parts t h)
@@ -72,20 +78,17 @@ pub back : (t : Time) → isTime t ≡ true → (a : BlockAddress) × (addressOf
 unfolding timeOf addressOf
 back t h = (addressAt (framesOf t), simp h, simp (range-back (framesOf t) (frames-small t h), frames-back, clock-back t h))
 
-no-time : (a : BlockAddress) → inRange a ≡ false → timeOf a ≡ refuse 15
-unfolding timeOf
-no-time a h = simp h
-
 no-address : (t : Time) → isTime t ≡ false → addressOf t ≡ refuse 15
 unfolding addressOf
 no-address t h = simp h
 
 -- both ways: t is the time of a just where a is the address of t
 pub time-address : (a : BlockAddress) (t : Time) → timeOf a ≡ pass t → addressOf t ≡ pass a
+unfolding timeOf
 time-address a t e =
     known (inRange a)
     (λ h. let w = there a h in let x : t ≡ w .0 = cc in rw x (w .2))
-    (λ h. let r : timeOf a ≡ refuse 15 = no-time a h in cc)
+    (λ h. let r = simp h at e in cc)
 
 pub address-time : (a : BlockAddress) (t : Time) → addressOf t ≡ pass a → timeOf a ≡ pass t
 address-time a t e =

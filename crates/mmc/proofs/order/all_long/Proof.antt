@@ -31,6 +31,7 @@ track-blocks-requires : tie.Need-track-blocks-requires Inv-loop μ-loop
 track-blocks-requires c κs = search needs
 
 returns : tie.Need-returns Inv-loop μ-loop
+unfolding allLong
 returns c =
     let b = c .before in
     let l = b .before .before .before in
@@ -47,6 +48,7 @@ loop-less : tie.Need-loop-less Inv-loop μ-loop
 loop-less c = search needs
 
 loop-again : tie.Need-loop-again Inv-loop μ-loop
+unfolding allLong
 loop-again c =
     let b = c .before in
     let l = b .before .before .before in

@@ -64,7 +64,7 @@ returns-3 c =
     let t : isSheet b ≡ true = sym (s .is-sheet .ensures) ∙ not-false (s .is-sheet .result) (k .before .if2 .left) in
     let e : readSheet b ≡ pass (sheetFor (orderIn b)) = simp t in
     let o = n .order-in .result in
-    let x = ap (λ (q : Kind). record { kind = q; count = o .count; tracks = o .tracks }) (k .order-kind .ensures) ∙ ap sheetFor (n .order-in .ensures) in
+    let x = ap (λ (q : Kind). record { kind = q; count = sheetFor o .count; tracks = o .tracks }) (k .order-kind .ensures) ∙ ap sheetFor (n .order-in .ensures) in
     record { answer = ap pass x ∙ sym e; sheet = x ∙ sym (ap (valueOr noSheet) e); made = made b }
 
 pub read-sheet-spec : {M : Type 1} → statement M
