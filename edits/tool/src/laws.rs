@@ -61,7 +61,8 @@ pub fn read(root: &Path, crates: &BTreeMap<String, Vec<String>>) -> Laws {
     laws
 }
 
-fn files(folder: &Path, kind: &str) -> Vec<PathBuf> {
+/// The files of a kind in a folder and below it.
+pub fn files(folder: &Path, kind: &str) -> Vec<PathBuf> {
     let mut found = Vec::new();
     let mut todo = vec![folder.to_path_buf()];
     while let Some(at) = todo.pop() {

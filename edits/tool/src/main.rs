@@ -150,10 +150,11 @@ fn work(root: &Path, wanted: &Wanted, tally: &Tally) -> Result<(), String> {
         mutants.values().for_each(|all| all.iter().take(wanted.count).for_each(|m| println!("{}", m.label())));
         return Ok(());
     }
-    let used: Vec<String> = names.iter().filter(|of| mutants.contains_key(*of) || edits.iter().any(|e| e.of == **of)).cloned().collect();
+    let mut used: Vec<String> = names.iter().filter(|of| mutants.contains_key(*of) || edits.iter().any(|e| e.of == **of)).cloned().collect();
     if used.is_empty() {
         return Ok(());
     }
+    used.sort_by_key(|of| std::cmp::Reverse(proofs(root, of)));
     let rooms = Rooms::new(root, &names, cores())?;
     rooms.prove(&used)?;
     if wanted.edits {
@@ -173,6 +174,12 @@ fn work(root: &Path, wanted: &Wanted, tally: &Tally) -> Result<(), String> {
 fn cores() -> usize {
     let set = std::env::var("JOBS").ok().and_then(|j| j.parse().ok());
     set.unwrap_or_else(|| std::thread::available_parallelism().map_or(1, |n| n.get())).max(1)
+}
+
+/// The bytes of a crate's proofs: the crate with the most is checked first, so that no core waits long for the last one.
+fn proofs(root: &Path, of: &str) -> u64 {
+    let files = laws::files(&root.join("crates").join(of).join("proofs"), "antt");
+    files.iter().filter_map(|f| f.metadata().ok()).map(|m| m.len()).sum()
 }
 
 /// Folders of edits that belong to no crate.
