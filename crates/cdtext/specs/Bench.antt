@@ -1,10 +1,13 @@
--- Document 000's three example packs, and the packs of two stop names, the first of which ends with a pack, as one statement about the
--- definitions. The packs of the names are the second program's.
+-- Document 000's three example packs, the packs of two stop names, the first of which ends with a pack, and titles at the limits, as one
+-- statement about the definitions. The packs of the names are the second program's.
 use mathlib.Core.Path.{_≡_}
 use mathlib.Core.List.{List, [], _∷_, _++_}
+use mathlib.Core.Bool.{true, false}
 use Prim.Native.Nat.{ℕ}
+use lib.ListN.{take, replicate}
 use Rattle.mmc.specs.Refusals.{pass}
-use Rattle.cdtext.specs.Packs.{sealed, packs}
+use Rattle.cdtext.specs.Titles.{allowed}
+use Rattle.cdtext.specs.Packs.{sealed, textPack, packs}
 
 -- "Willow Creek" and "Mill Road Farm", each with its ending zero
 abbrev pub twoNames : List ℕ
@@ -26,3 +29,12 @@ pub record ExamplePacks : Type 0 where
   pub pack-43 : sealed (0x8F ∷ 0x01 ∷ 0x2B ∷ 0x00 ∷ 0x00 ∷ 0x00 ∷ 0x00 ∷ 0x00 ∷ 0x00 ∷ 0x00 ∷ 0x06 ∷ 0x03 ∷ 0x2C ∷ 0x00 ∷ 0x00 ∷ 0x00 ∷ []) ≡ 0x8F ∷ 0x01 ∷ 0x2B ∷ 0x00 ∷ 0x00 ∷ 0x00 ∷ 0x00 ∷ 0x00 ∷ 0x00 ∷ 0x00 ∷ 0x06 ∷ 0x03 ∷ 0x2C ∷ 0x00 ∷ 0x00 ∷ 0x00 ∷ 0xC0 ∷ 0x20 ∷ []
   pub pack-44 : sealed (0x8F ∷ 0x02 ∷ 0x2C ∷ 0x00 ∷ 0x00 ∷ 0x00 ∷ 0x00 ∷ 0x00 ∷ 0x09 ∷ 0x00 ∷ 0x00 ∷ 0x00 ∷ 0x00 ∷ 0x00 ∷ 0x00 ∷ 0x00 ∷ []) ≡ 0x8F ∷ 0x02 ∷ 0x2C ∷ 0x00 ∷ 0x00 ∷ 0x00 ∷ 0x00 ∷ 0x00 ∷ 0x09 ∷ 0x00 ∷ 0x00 ∷ 0x00 ∷ 0x00 ∷ 0x00 ∷ 0x00 ∷ 0x00 ∷ 0x11 ∷ 0x45 ∷ []
   pub two-names : packs twoNames ≡ pass twoNamesPacks
+  -- 20h to 7Eh; 1 to 160 characters
+  pub first-character : allowed (0x20 ∷ 0 ∷ []) ≡ true
+  pub before-first : allowed (0x1F ∷ 0 ∷ []) ≡ false
+  pub last-character : allowed (0x7E ∷ 0 ∷ []) ≡ true
+  pub behind-last : allowed (0x7F ∷ 0 ∷ []) ≡ false
+  pub longest : allowed (replicate 160 0x41 ++ 0 ∷ []) ≡ true
+  pub too-long : allowed (replicate 161 0x41 ++ 0 ∷ []) ≡ false
+  -- the pack behind 24 characters of a title: at most 15
+  pub position : take 4 (textPack (replicate 30 0x41 ++ 0 ∷ []) 2) ≡ 0x80 ∷ 1 ∷ 2 ∷ 15 ∷ []

@@ -47,10 +47,14 @@ firstPlace = record { track = 1; count = 0 }
 abbrev pub placeAt : List ℕ → ℕ → Place
 placeAt run k = placeAfter firstPlace (take (12 * k) run)
 
+-- "at most 15"
+abbrev pub mostPosition : ℕ
+mostPosition = 15
+
 -- "A pack bears the track of the title, ending zero included, in which its text begins; character position is how many of that
 -- title's characters stand in earlier packs, at most 15."; type 80h, "one block, number 0"
 unfoldable pub textPack : List ℕ → ℕ → List ℕ
-textPack run k = pack 0x80 (placeAt run k .track) k (min (placeAt run k .count) 15) (take 12 (drop (12 * k) run))
+textPack run k = pack 0x80 (placeAt run k .track) k (min (placeAt run k .count) mostPosition) (take 12 (drop (12 * k) run))
 
 -- the first k of them
 unfoldable pub textPacks : List ℕ → ℕ → List ℕ

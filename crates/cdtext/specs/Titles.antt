@@ -7,8 +7,11 @@ use lib.Dec.{eqb, leb}
 use Rattle.mmc.specs.Bytes.{if}
 
 -- "plain ASCII from 20h to 7Eh"
+abbrev pub lastCharacter : ℕ
+lastCharacter = 0x7E
+
 abbrev pub isCharacter : ℕ → Bool
-isCharacter x = leb 0x20 x && leb x 0x7E
+isCharacter x = leb 0x20 x && leb x lastCharacter
 
 -- "each title 1 to 160 characters"
 abbrev pub titleLength : ℕ → Bool

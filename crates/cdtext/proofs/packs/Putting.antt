@@ -10,7 +10,7 @@ use lib.Seq.{take-all}
 use borrow.Author.Tests.{leb-true, leb-false}
 use Rattle.mmc.proofs.bytes.Steps.{known}
 use Rattle.cdtext.specs.Titles.{mostTitles}
-use Rattle.cdtext.specs.Packs.{longestRun, pack, placeAfter, placeAt, firstPlace, textPack, textPacks, packsFor, Fits}
+use Rattle.cdtext.specs.Packs.{mostPosition, longestRun, pack, placeAfter, placeAt, firstPlace, textPack, textPacks, packsFor, Fits}
 use Rattle.cdtext.specs.declared.packs.Place.{Place}
 use Rattle.cdtext.proofs.packs.Steps.{put-more}
 use Rattle.cdtext.proofs.packs.Places.{place-pack, track-under, count-under}
@@ -54,7 +54,7 @@ abbrev PutAt : List ℕ → List ℕ → ℕ → List ℕ → Type 0
 PutAt out out′ k p = out′ ≡ take (18 * k) out ++ p ++ drop (18 * k + 18) out
 
 pub putting-next : (run : List ℕ) (n : ℕ) (d out : List ℕ) (place : Place) (k : ℕ) → Putting run n d out place k → k < n
-    → (e position : ℕ) → e ≡ min (12 * k + 12) (length run) → position ≡ min (place .count) 15
+    → (e position : ℕ) → e ≡ min (12 * k + 12) (length run) → position ≡ min (place .count) mostPosition
     → (p out′ : List ℕ) → p ≡ pack 0x80 (place .track) k position (take (e - 12 * k) (drop (12 * k) run)) → PutAt out out′ k p → length out′ ≡ length out
     → (place′ : Place) → place′ ≡ placeAfter place (take (e - 12 * k) (drop (12 * k) run)) → Putting run n d out′ place′ (k + 1)
 unfolding textPacks textPack

@@ -12,7 +12,7 @@ use Rattle.mmc.specs.Bytes.{bytes16, allZero}
 use Rattle.mmc.proofs.bytes.Steps.{both, known, false-true, zeros-zero}
 use Rattle.cdtext.specs.Check.{checkOf}
 use Rattle.cdtext.specs.Titles.{titlesFrom, isCharacter, titleLength}
-use Rattle.cdtext.specs.Packs.{padded, pack, placeAt, textPack, textPacks, sizePack, sizePacks, textIn, trimmed}
+use Rattle.cdtext.specs.Packs.{mostPosition, padded, pack, placeAt, textPack, textPacks, sizePack, sizePacks, textIn, trimmed}
 use Rattle.cdtext.proofs.packs.Sealing.{padded-length}
 
 -- ---- lengths
@@ -33,7 +33,7 @@ pack-length type track number position text h =
 
 pub text-length : (run : List ℕ) (k : ℕ) → length (textPack run k) ≡ 18
 unfolding textPack
-text-length run k = pack-length 0x80 (placeAt run k .track) k (min (placeAt run k .count) 15) (take 12 (drop (12 * k) run)) (twelve (drop (12 * k) run))
+text-length run k = pack-length 0x80 (placeAt run k .track) k (min (placeAt run k .count) mostPosition) (take 12 (drop (12 * k) run)) (twelve (drop (12 * k) run))
 
 pub texts-length : (run : List ℕ) (k : ℕ) → length (textPacks run k) ≡ 18 * k
 unfolding textPacks
@@ -73,7 +73,7 @@ piece run k = take 12 (drop (12 * k) run)
 
 text-text : (run : List ℕ) (k : ℕ) → take 12 (drop 4 (textPack run k)) ≡ padded (piece run k)
 unfolding textPack
-text-text run k = pack-text 0x80 (placeAt run k .track) k (min (placeAt run k .count) 15) (piece run k) (twelve (drop (12 * k) run))
+text-text run k = pack-text 0x80 (placeAt run k .track) k (min (placeAt run k .count) mostPosition) (piece run k) (twelve (drop (12 * k) run))
 
 text-next : (run : List ℕ) (k : ℕ) → textIn (suc k) (textPacks run (suc k)) ≡ textIn k (textPacks run k) ++ padded (piece run k)
 unfolding textIn textPacks

@@ -9,7 +9,7 @@ use lib.ListN.{length, length-append}
 use lib.Seq.{append-snoc}
 use borrow.Author.Tests.{eqb-true, ne-eqb, leb-true, le-leb}
 use Rattle.mmc.proofs.bytes.Steps.{both, known}
-use Rattle.cdtext.specs.Titles.{isCharacter, titleLength, titlesFrom, titleCount, mostTitles, allowed, allCharacters, allTitles, runOf}
+use Rattle.cdtext.specs.Titles.{lastCharacter, isCharacter, titleLength, titlesFrom, titleCount, mostTitles, allowed, allCharacters, allTitles, runOf}
 use Rattle.cdtext.specs.Packs.{IsRun}
 
 -- ---- from the run to its titles
@@ -86,7 +86,7 @@ titles run h =
 -- a character is not the zero that ends a title
 pub not-end : (x : ℕ) → isCharacter x ≡ true → eqb x 0 ≡ false
 not-end x h =
-    let w = both (leb 0x20 x) (leb x 0x7E) h in
+    let w = both (leb 0x20 x) (leb x lastCharacter) h in
     ne-eqb x 0 (λ e. omega (arith, leb-true 0x20 x (w .0)))
 
 title-from : (t : List ℕ) (c : ℕ) (rest : List ℕ) → allCharacters t ≡ true
