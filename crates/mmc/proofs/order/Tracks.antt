@@ -10,7 +10,7 @@ use lib.Seq.{drop-cons, getD-take, length-take-le, take-all}
 use native.Mathlib.Decide.{decLe}
 use lib.Dec.{leb}
 use borrow.Author.Tests.{leb-true}
-use Rattle.mmc.specs.Order.{noTrack, isNone, allNone, validOrder, sameKind, allKind, allLong, blocksOf, leastBlocks}
+use Rattle.mmc.specs.Order.{noTrack, isNone, allNone, validOrder, sameKind, allKind, allLong, blocksOf}
 use Rattle.mmc.specs.declared.order.Order.{Order}
 use Rattle.mmc.specs.declared.order.Track.{Track}
 use Rattle.mmc.specs.declared.order.Kind.{Kind}
