@@ -50,7 +50,7 @@ pub record BenchSheets : Type 0 where
   -- SAO, no flags, one data track of 300
   pub block : orderBlock (oneData 300) ≡ pass (0x01 ∷ 0x02 ∷ 0x00 ∷ 0x01 ∷ 0x01 ∷ 0x00 ∷ 0x00 ∷ 0x01 ∷ 0x2C ∷ replicate 501 0 ++ 0x00 ∷ 0x32 ∷ [])
   -- track count 0 or 100: 3; 1 and 99 pass
-  pub none : readOrder (orderBytes (counting 0)) ≡ refuse 3
+  pub none : readOrder (orderBytes (order Sao false false 0 (replicate 99 noTrack))) ≡ refuse 3
   pub hundred : readOrder (orderBytes (counting 100)) ≡ refuse 3
   pub one : readOrder (orderBytes (oneData 300)) ≡ pass (oneData 300)
   pub ninety-nine : readOrder (orderBytes (counting 99)) ≡ pass (counting 99)

@@ -12,7 +12,10 @@ pub struct Failure {
 #[derive(Clone, Debug, PartialEq)]
 pub enum Verdict {
     /// a fact fails: the proofs that fail by themselves, and the functions that are not proved, but for those that only call one
-    Refused { roots: Vec<Failure>, functions: Vec<String> },
+    Refused {
+        roots: Vec<Failure>,
+        functions: Vec<String>,
+    },
     Survives,
     /// the code, or a definition in specs/, is not well formed
     NotBuilt(String),
@@ -55,19 +58,26 @@ pub fn refused(roots: Vec<Failure>, functions: Vec<String>) -> Verdict {
 }
 
 fn last(said: &str) -> String {
-    said.lines().last().unwrap_or("nothing was said").to_string()
+    said.lines()
+        .last()
+        .unwrap_or("nothing was said")
+        .to_string()
 }
 
 /// What fails by itself: no proof that only cites one that failed.
 pub fn failures(said: &str, folder: &str) -> Vec<Failure> {
-    said.lines().filter_map(|line| failure(line, folder)).collect()
+    said.lines()
+        .filter_map(|line| failure(line, folder))
+        .collect()
 }
 
 fn failure(line: &str, folder: &str) -> Option<Failure> {
     if let Some(rest) = line.strip_prefix("note: ") {
         // a function without a proof file, for which the prover finds no proof by itself
         let (place, fact) = rest.split_once(": ")?;
-        return fact.starts_with("it is not proved that").then(|| at(place, "", line, folder));
+        return fact
+            .starts_with("it is not proved that")
+            .then(|| at(place, "", line, folder));
     }
     if let Some((place, _)) = line.split_once(": error[") {
         return Some(at(place, "", line, folder));
@@ -76,27 +86,49 @@ fn failure(line: &str, folder: &str) -> Option<Failure> {
     if message.contains(" was not admitted (") {
         return None;
     }
-    let declaration = message.strip_prefix('`').and_then(|m| m.split_once("`:")).map_or("", |(name, _)| name);
+    let declaration = message
+        .strip_prefix('`')
+        .and_then(|m| m.split_once("`:"))
+        .map_or("", |(name, _)| name);
     Some(at(place, declaration, line, folder))
 }
 
 /// FILE:LINE:COLUMN
 fn at(place: &str, declaration: &str, line: &str, folder: &str) -> Failure {
-    let path = place.strip_prefix(folder).unwrap_or(place).trim_start_matches('/');
+    let path = place
+        .strip_prefix(folder)
+        .unwrap_or(place)
+        .trim_start_matches('/');
     let mut parts = path.split(':');
     let file = parts.next().unwrap_or_default().to_string();
     let at = parts.next().and_then(|n| n.parse().ok()).unwrap_or(0);
-    Failure { file, at, declaration: declaration.to_string(), line: line.replace(folder, "").chars().take(300).collect() }
+    Failure {
+        file,
+        at,
+        declaration: declaration.to_string(),
+        line: line.replace(folder, "").chars().take(300).collect(),
+    }
 }
 
 /// The proof file names a place of the code that is no longer there, or hands over a proof for another one.
 fn misfit(line: &str) -> bool {
-    line.contains("has no `Need-") || line.contains("has no field") || line.contains(": expected type `tie.Need-")
+    let signs = [
+        "has no `Need-",
+        "has no field",
+        ": expected type `tie.Need-",
+        "this pattern needs a function (or path) type to bind",
+    ];
+    signs.iter().any(|sign| line.contains(sign))
 }
 
 fn functions(said: &str) -> Vec<String> {
-    let lines = said.lines().filter_map(|l| l.strip_prefix("fn ")?.split_once(": "));
-    lines.filter(|(_, what)| *what == "not proved" || what.starts_with("no proof")).map(|(name, _)| name.to_string()).collect()
+    let lines = said
+        .lines()
+        .filter_map(|l| l.strip_prefix("fn ")?.split_once(": "));
+    lines
+        .filter(|(_, what)| *what == "not proved" || what.starts_with("no proof"))
+        .map(|(name, _)| name.to_string())
+        .collect()
 }
 
 #[cfg(test)]
@@ -109,9 +141,14 @@ fn c::a: not proved\nfn c::b: not proved; it calls `c::a`, which is not proved\n
 
     #[test]
     fn a_fact_fails() {
-        let Verdict::Refused { roots, functions } = verdict(1, FACT, "/r/crates/c") else { panic!() };
+        let Verdict::Refused { roots, functions } = verdict(1, FACT, "/r/crates/c") else {
+            panic!()
+        };
         assert_eq!(roots.len(), 1);
-        assert_eq!((roots[0].file.as_str(), roots[0].declaration.as_str()), ("proofs/a/Proof.antt", "returns"));
+        assert_eq!(
+            (roots[0].file.as_str(), roots[0].declaration.as_str()),
+            ("proofs/a/Proof.antt", "returns")
+        );
         assert_eq!(functions, ["c::a"]);
     }
 
@@ -119,24 +156,49 @@ fn c::a: not proved\nfn c::b: not proved; it calls `c::a`, which is not proved\n
     fn a_function_without_a_proof_file() {
         let said = "x\nnote: /r/crates/c/src/p.rt:88:1: it is not proved that what the function ensures holds\n\
 fn c::p: no proof: expected `p-spec`\nlogic=not-proved\n";
-        let Verdict::Refused { roots, functions } = verdict(1, said, "/r/crates/c") else { panic!() };
+        let Verdict::Refused { roots, functions } = verdict(1, said, "/r/crates/c") else {
+            panic!()
+        };
         assert_eq!(roots[0].file, "src/p.rt");
         assert_eq!(functions, ["c::p"]);
     }
 
     #[test]
     fn what_shows_nothing() {
-        let misfits = ["module `T` has no `Need-r-7` that can be named", "`c .x` has no field `y`", "`a-spec`: expected type `tie.Need-add-r`, but"];
+        let misfits = [
+            "`Inv-loop`: this pattern needs a function (or path) type to bind",
+            "module `T` has no `Need-r-7` that can be named",
+            "`c .x` has no field `y`",
+            "`a-spec`: expected type `tie.Need-add-r`, but",
+        ];
         for misfit in misfits {
             let said = format!("{FACT}/r/crates/c/proofs/a/Proof.antt:1:1: error: {misfit}\n");
-            assert!(matches!(verdict(1, &said, "/r/crates/c"), Verdict::Shape(_)), "{misfit}");
+            assert!(
+                matches!(verdict(1, &said, "/r/crates/c"), Verdict::Shape(_)),
+                "{misfit}"
+            );
         }
         let said = format!("{FACT}/r/crates/c/specs/A.antt:1:1: error: `f`: expected type `ℕ`\n");
-        assert!(matches!(verdict(1, &said, "/r/crates/c"), Verdict::NotBuilt(_)));
+        assert!(matches!(
+            verdict(1, &said, "/r/crates/c"),
+            Verdict::NotBuilt(_)
+        ));
         let said = "x\n/r/crates/c/src/p.rt:1:13: error[unknown-name]: cannot find value\n";
-        assert!(matches!(verdict(1, said, "/r/crates/c"), Verdict::NotBuilt(_)));
-        assert!(matches!(verdict(124, "x\n", "/r/crates/c"), Verdict::Unclear(_)));
-        assert!(matches!(verdict(0, "x\nlogic=proved functions=1\n", "/r/crates/c"), Verdict::Survives));
-        assert!(matches!(verdict(0, "x\n", "/r/crates/c"), Verdict::Unclear(_)));
+        assert!(matches!(
+            verdict(1, said, "/r/crates/c"),
+            Verdict::NotBuilt(_)
+        ));
+        assert!(matches!(
+            verdict(124, "x\n", "/r/crates/c"),
+            Verdict::Unclear(_)
+        ));
+        assert!(matches!(
+            verdict(0, "x\nlogic=proved functions=1\n", "/r/crates/c"),
+            Verdict::Survives
+        ));
+        assert!(matches!(
+            verdict(0, "x\n", "/r/crates/c"),
+            Verdict::Unclear(_)
+        ));
     }
 }
