@@ -35,9 +35,7 @@ pub fn merged(source: &Path, all: &[&Changes]) -> Option<Texts> {
     }
     let mut texts = Texts::new();
     for ((file, at), new) in lines {
-        let text = texts
-            .entry(file.clone())
-            .or_insert_with(|| fs::read_to_string(source.join(&file)).unwrap_or_default());
+        let text = texts.entry(file.clone()).or_insert_with(|| fs::read_to_string(source.join(&file)).unwrap_or_default());
         let mut own: Vec<&str> = text.split('\n').collect();
         own[at] = &new;
         *text = own.join("\n");
@@ -56,8 +54,7 @@ pub struct Body {
 
 impl Body {
     pub fn has(&self, failure: &Failure) -> bool {
-        let inside =
-            failure.file == self.file && self.first < failure.at && failure.at <= self.last + 1;
+        let inside = failure.file == self.file && self.first < failure.at && failure.at <= self.last + 1;
         inside || failure.file == self.proof
     }
 }
@@ -67,35 +64,24 @@ pub fn body(source: &Path, changes: &Changes) -> Option<Body> {
     let (file, at) = changes.keys().next()?;
     let text = fs::read_to_string(source.join(file)).ok()?;
     let body = owner(file, &text, *at)?;
-    changes
-        .keys()
-        .all(|(f, a)| f == file && owner(f, &text, *a).as_ref() == Some(&body))
-        .then_some(body)
+    changes.keys().all(|(f, a)| f == file && owner(f, &text, *a).as_ref() == Some(&body)).then_some(body)
 }
 
 /// The function whose body a line belongs to; that of a private constant to the one function that names it.
 fn owner(file: &str, text: &str, at: usize) -> Option<Body> {
     let lines: Vec<&str> = text.split('\n').collect();
-    let Some(constant) = lines[at]
-        .strip_prefix("const ")
-        .and_then(|l| l.split(':').next())
-    else {
+    let Some(constant) = lines[at].strip_prefix("const ").and_then(|l| l.split(':').next()) else {
         return body_at(file, text, at);
     };
     let part = |c: char| c.is_alphanumeric() || c == '_';
-    let mut users = (0..lines.len())
-        .filter(|i| *i != at && lines[*i].split(|c: char| !part(c)).any(|w| w == constant));
+    let mut users = (0..lines.len()).filter(|i| *i != at && lines[*i].split(|c: char| !part(c)).any(|w| w == constant));
     let body = body_at(file, text, users.next()?)?;
-    users
-        .all(|i| body_at(file, text, i).as_ref() == Some(&body))
-        .then_some(body)
+    users.all(|i| body_at(file, text, i).as_ref() == Some(&body)).then_some(body)
 }
 
 fn name(line: &str) -> Option<&str> {
     let bare = line.trim_start();
-    let rest = ["fn ", "pub fn ", "pub(crate) fn "]
-        .iter()
-        .find_map(|p| bare.strip_prefix(p))?;
+    let rest = ["fn ", "pub fn ", "pub(crate) fn "].iter().find_map(|p| bare.strip_prefix(p))?;
     rest.split('(').next()
 }
 
@@ -111,25 +97,10 @@ fn body_at(file: &str, text: &str, at: usize) -> Option<Body> {
     if at <= open || last <= at {
         return None;
     }
-    let own = if indent > 0 {
-        (0..first)
-            .rev()
-            .find_map(|i| lines[i].strip_prefix("impl "))
-    } else {
-        None
-    };
-    let parts = [
-        Some(module).filter(|m| *m != "lib" && *m != "main"),
-        own.and_then(|i| i.split_whitespace().next()),
-        name(lines[first]),
-    ];
+    let own = if indent > 0 { (0..first).rev().find_map(|i| lines[i].strip_prefix("impl ")) } else { None };
+    let parts = [Some(module).filter(|m| *m != "lib" && *m != "main"), own.and_then(|i| i.split_whitespace().next()), name(lines[first])];
     let path: Vec<&str> = parts.into_iter().flatten().collect();
-    Some(Body {
-        file: file.to_string(),
-        first,
-        last,
-        proof: format!("proofs/{}/Proof.antt", path.join("/")),
-    })
+    Some(Body { file: file.to_string(), first, last, proof: format!("proofs/{}/Proof.antt", path.join("/")) })
 }
 
 #[cfg(test)]
@@ -142,18 +113,9 @@ mod tests {
     fn bodies() {
         assert_eq!(body_at("src/m.rt", TEXT, 0), None);
         assert_eq!(body_at("src/m.rt", TEXT, 3), None);
-        assert_eq!(
-            body_at("src/m.rt", TEXT, 5).unwrap().proof,
-            "proofs/m/f/Proof.antt"
-        );
-        assert_eq!(
-            body_at("src/lib.rt", TEXT, 5).unwrap().proof,
-            "proofs/f/Proof.antt"
-        );
-        assert_eq!(
-            body_at("src/m.rt", TEXT, 10).unwrap().proof,
-            "proofs/m/S/g/Proof.antt"
-        );
+        assert_eq!(body_at("src/m.rt", TEXT, 5).unwrap().proof, "proofs/m/f/Proof.antt");
+        assert_eq!(body_at("src/lib.rt", TEXT, 5).unwrap().proof, "proofs/f/Proof.antt");
+        assert_eq!(body_at("src/m.rt", TEXT, 10).unwrap().proof, "proofs/m/S/g/Proof.antt");
         assert_eq!(body_at("specs/M.antt", TEXT, 5), None);
     }
 
@@ -162,21 +124,13 @@ mod tests {
         let used = TEXT.replace("a + 1", "a + A");
         assert_eq!(owner("src/m.rt", TEXT, 0), None);
         assert_eq!(owner("src/m.rt", &used, 0), body_at("src/m.rt", &used, 5));
-        assert_eq!(
-            owner("src/m.rt", &used.replace("        2", "        A"), 0),
-            None
-        );
+        assert_eq!(owner("src/m.rt", &used.replace("        2", "        A"), 0), None);
     }
 
     #[test]
     fn failures_of_a_body() {
         let f = body_at("src/m.rt", TEXT, 5).unwrap();
-        let failure = |file: &str, at| Failure {
-            file: file.into(),
-            at,
-            declaration: String::new(),
-            line: String::new(),
-        };
+        let failure = |file: &str, at| Failure { file: file.into(), at, declaration: String::new(), line: String::new() };
         assert!(f.has(&failure("proofs/m/f/Proof.antt", 1)));
         assert!(f.has(&failure("src/m.rt", 3)));
         assert!(f.has(&failure("src/m.rt", 6)));

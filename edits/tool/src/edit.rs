@@ -36,14 +36,8 @@ pub fn parse(of: &str, label: &str, text: &str, folder: &Path) -> Result<Edit, S
             continue;
         }
         if let Some(name) = line.strip_prefix("law: ") {
-            let (record, field) = name
-                .trim()
-                .split_once('.')
-                .ok_or(format!("'{line}' names no RECORD.FIELD"))?;
-            laws.push(Law {
-                record: record.to_string(),
-                field: field.to_string(),
-            });
+            let (record, field) = name.trim().split_once('.').ok_or(format!("'{line}' names no RECORD.FIELD"))?;
+            laws.push(Law { record: record.to_string(), field: field.to_string() });
         } else if let Some(place) = line.strip_prefix("fails: ") {
             let mut words = place.split_whitespace().map(str::to_string);
             let file = words.next().ok_or("a 'fails:' line names no file")?;
@@ -63,19 +57,12 @@ pub fn parse(of: &str, label: &str, text: &str, folder: &Path) -> Result<Edit, S
             old = Some(rest.to_string());
         } else if let Some(rest) = line.strip_prefix("new:") {
             let new = rest.strip_prefix(' ').unwrap_or(rest);
-            let was = old
-                .take()
-                .ok_or("a 'new:' line stands behind no 'old:' line")?;
+            let was = old.take().ok_or("a 'new:' line stands behind no 'old:' line")?;
             let now = match texts.get(&file) {
                 Some(text) => text.clone(),
-                None => {
-                    fs::read_to_string(folder.join(&file)).map_err(|e| format!("{file}: {e}"))?
-                }
+                None => fs::read_to_string(folder.join(&file)).map_err(|e| format!("{file}: {e}"))?,
             };
-            texts.insert(
-                file.clone(),
-                replaced(&now, &after, &was, new).map_err(|e| format!("{file}: {e}"))?,
-            );
+            texts.insert(file.clone(), replaced(&now, &after, &was, new).map_err(|e| format!("{file}: {e}"))?);
             after.clear();
             pairs += 1;
         } else {
@@ -88,13 +75,7 @@ pub fn parse(of: &str, label: &str, text: &str, folder: &Path) -> Result<Edit, S
     if laws.is_empty() != fails.is_empty() {
         return Err("'law:' goes with 'fails:'".to_string());
     }
-    Ok(Edit {
-        of: of.to_string(),
-        label: label.to_string(),
-        laws,
-        fails,
-        changes: changes(folder, &texts),
-    })
+    Ok(Edit { of: of.to_string(), label: label.to_string(), laws, fails, changes: changes(folder, &texts) })
 }
 
 /// Puts `new` for `old`, which stands once in the text; behind `after`, which stands once, for the first one there.
@@ -107,9 +88,7 @@ fn replaced(text: &str, after: &str, old: &str, new: &str) -> Result<String, Str
         once(old)?
     } else {
         let from = once(after)? + after.len();
-        from + text[from..]
-            .find(old)
-            .ok_or(format!("'{old}' is not there behind '{after}'"))?
+        from + text[from..].find(old).ok_or(format!("'{old}' is not there behind '{after}'"))?
     };
     Ok(format!("{}{new}{}", &text[..at], &text[at + old.len()..]))
 }
@@ -124,11 +103,7 @@ pub fn all(root: &Path, crates: &[String]) -> (Vec<Edit>, Vec<String>) {
         let mut paths: Vec<_> = entries.flatten().map(|e| e.path()).collect();
         paths.sort();
         for path in paths {
-            let label = path
-                .file_stem()
-                .unwrap_or_default()
-                .to_string_lossy()
-                .to_string();
+            let label = path.file_stem().unwrap_or_default().to_string_lossy().to_string();
             if path.extension().is_none_or(|e| e != "edit") {
                 faults.push(format!("{of}/{label}: no .edit file"));
                 continue;
@@ -167,24 +142,9 @@ mod tests {
     #[test]
     fn behind_a_place() {
         let at = folder("behind");
-        let edit = parse(
-            "c",
-            "l",
-            "file: src/lib.rt\nafter: a = 1;\nold: = 1;\nnew: = 2;\n",
-            &at,
-        )
-        .unwrap();
-        assert_eq!(
-            edit.changes,
-            Changes::from([(("src/lib.rt".to_string(), 1), "b = 2;".to_string())])
-        );
-        assert!(parse(
-            "c",
-            "l",
-            "file: src/lib.rt\nafter: b\nold: a\nnew: c\n",
-            &at
-        )
-        .is_err());
+        let edit = parse("c", "l", "file: src/lib.rt\nafter: a = 1;\nold: = 1;\nnew: = 2;\n", &at).unwrap();
+        assert_eq!(edit.changes, Changes::from([(("src/lib.rt".to_string(), 1), "b = 2;".to_string())]));
+        assert!(parse("c", "l", "file: src/lib.rt\nafter: b\nold: a\nnew: c\n", &at).is_err());
     }
 
     #[test]

@@ -58,26 +58,19 @@ pub fn refused(roots: Vec<Failure>, functions: Vec<String>) -> Verdict {
 }
 
 fn last(said: &str) -> String {
-    said.lines()
-        .last()
-        .unwrap_or("nothing was said")
-        .to_string()
+    said.lines().last().unwrap_or("nothing was said").to_string()
 }
 
 /// What fails by itself: no proof that only cites one that failed.
 pub fn failures(said: &str, folder: &str) -> Vec<Failure> {
-    said.lines()
-        .filter_map(|line| failure(line, folder))
-        .collect()
+    said.lines().filter_map(|line| failure(line, folder)).collect()
 }
 
 fn failure(line: &str, folder: &str) -> Option<Failure> {
     if let Some(rest) = line.strip_prefix("note: ") {
         // a function without a proof file, for which the prover finds no proof by itself
         let (place, fact) = rest.split_once(": ")?;
-        return fact
-            .starts_with("it is not proved that")
-            .then(|| at(place, "", line, folder));
+        return fact.starts_with("it is not proved that").then(|| at(place, "", line, folder));
     }
     if let Some((place, _)) = line.split_once(": error[") {
         return Some(at(place, "", line, folder));
@@ -86,49 +79,28 @@ fn failure(line: &str, folder: &str) -> Option<Failure> {
     if message.contains(" was not admitted (") {
         return None;
     }
-    let declaration = message
-        .strip_prefix('`')
-        .and_then(|m| m.split_once("`:"))
-        .map_or("", |(name, _)| name);
+    let declaration = message.strip_prefix('`').and_then(|m| m.split_once("`:")).map_or("", |(name, _)| name);
     Some(at(place, declaration, line, folder))
 }
 
 /// FILE:LINE:COLUMN
 fn at(place: &str, declaration: &str, line: &str, folder: &str) -> Failure {
-    let path = place
-        .strip_prefix(folder)
-        .unwrap_or(place)
-        .trim_start_matches('/');
+    let path = place.strip_prefix(folder).unwrap_or(place).trim_start_matches('/');
     let mut parts = path.split(':');
     let file = parts.next().unwrap_or_default().to_string();
     let at = parts.next().and_then(|n| n.parse().ok()).unwrap_or(0);
-    Failure {
-        file,
-        at,
-        declaration: declaration.to_string(),
-        line: line.replace(folder, "").chars().take(300).collect(),
-    }
+    Failure { file, at, declaration: declaration.to_string(), line: line.replace(folder, "").chars().take(300).collect() }
 }
 
 /// The proof file names a place of the code that is no longer there, or hands over a proof for another one.
 fn misfit(line: &str) -> bool {
-    let signs = [
-        "has no `Need-",
-        "has no field",
-        ": expected type `tie.Need-",
-        "this pattern needs a function (or path) type to bind",
-    ];
+    let signs = ["has no `Need-", "has no field", ": expected type `tie.Need-", "this pattern needs a function (or path) type to bind"];
     signs.iter().any(|sign| line.contains(sign))
 }
 
 fn functions(said: &str) -> Vec<String> {
-    let lines = said
-        .lines()
-        .filter_map(|l| l.strip_prefix("fn ")?.split_once(": "));
-    lines
-        .filter(|(_, what)| *what == "not proved" || what.starts_with("no proof"))
-        .map(|(name, _)| name.to_string())
-        .collect()
+    let lines = said.lines().filter_map(|l| l.strip_prefix("fn ")?.split_once(": "));
+    lines.filter(|(_, what)| *what == "not proved" || what.starts_with("no proof")).map(|(name, _)| name.to_string()).collect()
 }
 
 #[cfg(test)]
@@ -141,14 +113,9 @@ fn c::a: not proved\nfn c::b: not proved; it calls `c::a`, which is not proved\n
 
     #[test]
     fn a_fact_fails() {
-        let Verdict::Refused { roots, functions } = verdict(1, FACT, "/r/crates/c") else {
-            panic!()
-        };
+        let Verdict::Refused { roots, functions } = verdict(1, FACT, "/r/crates/c") else { panic!() };
         assert_eq!(roots.len(), 1);
-        assert_eq!(
-            (roots[0].file.as_str(), roots[0].declaration.as_str()),
-            ("proofs/a/Proof.antt", "returns")
-        );
+        assert_eq!((roots[0].file.as_str(), roots[0].declaration.as_str()), ("proofs/a/Proof.antt", "returns"));
         assert_eq!(functions, ["c::a"]);
     }
 
@@ -156,9 +123,7 @@ fn c::a: not proved\nfn c::b: not proved; it calls `c::a`, which is not proved\n
     fn a_function_without_a_proof_file() {
         let said = "x\nnote: /r/crates/c/src/p.rt:88:1: it is not proved that what the function ensures holds\n\
 fn c::p: no proof: expected `p-spec`\nlogic=not-proved\n";
-        let Verdict::Refused { roots, functions } = verdict(1, said, "/r/crates/c") else {
-            panic!()
-        };
+        let Verdict::Refused { roots, functions } = verdict(1, said, "/r/crates/c") else { panic!() };
         assert_eq!(roots[0].file, "src/p.rt");
         assert_eq!(functions, ["c::p"]);
     }
@@ -173,32 +138,14 @@ fn c::p: no proof: expected `p-spec`\nlogic=not-proved\n";
         ];
         for misfit in misfits {
             let said = format!("{FACT}/r/crates/c/proofs/a/Proof.antt:1:1: error: {misfit}\n");
-            assert!(
-                matches!(verdict(1, &said, "/r/crates/c"), Verdict::Shape(_)),
-                "{misfit}"
-            );
+            assert!(matches!(verdict(1, &said, "/r/crates/c"), Verdict::Shape(_)), "{misfit}");
         }
         let said = format!("{FACT}/r/crates/c/specs/A.antt:1:1: error: `f`: expected type `ℕ`\n");
-        assert!(matches!(
-            verdict(1, &said, "/r/crates/c"),
-            Verdict::NotBuilt(_)
-        ));
+        assert!(matches!(verdict(1, &said, "/r/crates/c"), Verdict::NotBuilt(_)));
         let said = "x\n/r/crates/c/src/p.rt:1:13: error[unknown-name]: cannot find value\n";
-        assert!(matches!(
-            verdict(1, said, "/r/crates/c"),
-            Verdict::NotBuilt(_)
-        ));
-        assert!(matches!(
-            verdict(124, "x\n", "/r/crates/c"),
-            Verdict::Unclear(_)
-        ));
-        assert!(matches!(
-            verdict(0, "x\nlogic=proved functions=1\n", "/r/crates/c"),
-            Verdict::Survives
-        ));
-        assert!(matches!(
-            verdict(0, "x\n", "/r/crates/c"),
-            Verdict::Unclear(_)
-        ));
+        assert!(matches!(verdict(1, said, "/r/crates/c"), Verdict::NotBuilt(_)));
+        assert!(matches!(verdict(124, "x\n", "/r/crates/c"), Verdict::Unclear(_)));
+        assert!(matches!(verdict(0, "x\nlogic=proved functions=1\n", "/r/crates/c"), Verdict::Survives));
+        assert!(matches!(verdict(0, "x\n", "/r/crates/c"), Verdict::Unclear(_)));
     }
 }

@@ -34,10 +34,7 @@ pub fn read(root: &Path, crates: &BTreeMap<String, Vec<String>>) -> Laws {
     for (name, deps) in crates {
         let folder = root.join("crates").join(name);
         let ours = deps.iter().filter(|d| crates.contains_key(*d)).cloned();
-        laws.sees.insert(
-            name.clone(),
-            std::iter::once(name.clone()).chain(ours).collect(),
-        );
+        laws.sees.insert(name.clone(), std::iter::once(name.clone()).chain(ours).collect());
         for path in files(&folder.join("specs"), "antt") {
             let text = fs::read_to_string(path).unwrap_or_default();
             for (record, fields) in records_in(&text) {
@@ -53,10 +50,7 @@ pub fn read(root: &Path, crates: &BTreeMap<String, Vec<String>>) -> Laws {
             for (function, clause) in clauses_in(&fs::read_to_string(path).unwrap_or_default()) {
                 for (of, record) in laws.named(name, &clause) {
                     if of == *name {
-                        laws.promises
-                            .entry((of, record))
-                            .or_default()
-                            .insert(function.clone());
+                        laws.promises.entry((of, record)).or_default().insert(function.clone());
                     } else {
                         laws.promises.entry((of, record)).or_default();
                     }
@@ -72,12 +66,7 @@ pub fn files(folder: &Path, kind: &str) -> Vec<PathBuf> {
     let mut found = Vec::new();
     let mut todo = vec![folder.to_path_buf()];
     while let Some(at) = todo.pop() {
-        for path in fs::read_dir(at)
-            .into_iter()
-            .flatten()
-            .flatten()
-            .map(|e| e.path())
-        {
+        for path in fs::read_dir(at).into_iter().flatten().flatten().map(|e| e.path()) {
             if path.is_dir() {
                 todo.push(path);
             } else if path.extension().is_some_and(|e| e == kind) {
@@ -96,25 +85,13 @@ fn records_in(text: &str) -> Vec<(String, Vec<(String, String)>)> {
     for line in text.lines() {
         if let Some(rest) = line.strip_prefix("pub record ") {
             inside = true;
-            found.push((
-                rest.split_whitespace()
-                    .next()
-                    .unwrap_or_default()
-                    .to_string(),
-                Vec::new(),
-            ));
+            found.push((rest.split_whitespace().next().unwrap_or_default().to_string(), Vec::new()));
         } else if !line.is_empty() && !line.starts_with(' ') {
             inside = false;
         } else if let (true, Some((_, fields))) = (inside, found.last_mut()) {
-            if let Some((field, text)) = line
-                .trim_start()
-                .strip_prefix("pub ")
-                .and_then(|l| l.split_once(" :"))
-            {
+            if let Some((field, text)) = line.trim_start().strip_prefix("pub ").and_then(|l| l.split_once(" :")) {
                 fields.push((field.to_string(), text.to_string()));
-            } else if let (false, Some((_, text))) =
-                (line.trim_start().starts_with("--"), fields.last_mut())
-            {
+            } else if let (false, Some((_, text))) = (line.trim_start().starts_with("--"), fields.last_mut()) {
                 text.push_str(line);
             }
         }
@@ -126,21 +103,11 @@ fn records_in(text: &str) -> Vec<(String, Vec<(String, String)>)> {
 fn names_in(text: &str) -> Vec<(String, String)> {
     let mut found: Vec<(String, String)> = Vec::new();
     for line in text.lines() {
-        let head = line
-            .strip_prefix("abbrev pub ")
-            .or(line.strip_prefix("unfoldable pub "));
+        let head = line.strip_prefix("abbrev pub ").or(line.strip_prefix("unfoldable pub "));
         if let (Some(head), true) = (head, line.ends_with("Type 0")) {
-            found.push((
-                head.split_whitespace()
-                    .next()
-                    .unwrap_or_default()
-                    .to_string(),
-                String::new(),
-            ));
+            found.push((head.split_whitespace().next().unwrap_or_default().to_string(), String::new()));
         } else if let Some((name, means)) = found.last_mut() {
-            if let (true, Some((_, right))) =
-                (line.starts_with(name.as_str()), line.split_once(" = "))
-            {
+            if let (true, Some((_, right))) = (line.starts_with(name.as_str()), line.split_once(" = ")) {
                 means.push_str(right);
                 means.push(' ');
             }
@@ -155,9 +122,7 @@ fn clauses_in(text: &str) -> Vec<(String, String)> {
     let mut found = Vec::new();
     for line in text.lines() {
         let bare = line.trim_start();
-        let head = ["fn ", "pub fn ", "pub(crate) fn "]
-            .iter()
-            .find_map(|p| bare.strip_prefix(p));
+        let head = ["fn ", "pub fn ", "pub(crate) fn "].iter().find_map(|p| bare.strip_prefix(p));
         if let Some(rest) = head {
             function = rest.split('(').next().unwrap_or_default().to_string();
         } else if bare.starts_with("ensures") {
@@ -169,21 +134,13 @@ fn clauses_in(text: &str) -> Vec<(String, String)> {
 
 fn words(text: &str) -> BTreeSet<String> {
     let part = |c: char| c.is_alphanumeric() || c == '-' || c == '_';
-    text.split(|c: char| !part(c))
-        .filter(|w| !w.is_empty())
-        .map(str::to_string)
-        .collect()
+    text.split(|c: char| !part(c)).filter(|w| !w.is_empty()).map(str::to_string).collect()
 }
 
 impl Laws {
     /// The records that a text of a crate names, by themselves or by a name for a statement.
     fn named(&self, of: &str, text: &str) -> BTreeSet<Name> {
-        let places = |word: &str| {
-            self.sees[of]
-                .iter()
-                .map(|c| (c.clone(), word.to_string()))
-                .collect::<Vec<Name>>()
-        };
+        let places = |word: &str| self.sees[of].iter().map(|c| (c.clone(), word.to_string())).collect::<Vec<Name>>();
         let mut todo: Vec<Name> = words(text).iter().flat_map(|w| places(w)).collect();
         let (mut seen, mut found) = (BTreeSet::new(), BTreeSet::new());
         while let Some(name) = todo.pop() {
@@ -191,11 +148,7 @@ impl Laws {
                 found.insert(name.clone());
             }
             if let (true, Some(means)) = (seen.insert(name.clone()), self.names.get(&name)) {
-                todo.extend(words(means).iter().flat_map(|w| {
-                    self.sees[&name.0]
-                        .iter()
-                        .map(move |c| (c.clone(), w.clone()))
-                }));
+                todo.extend(words(means).iter().flat_map(|w| self.sees[&name.0].iter().map(move |c| (c.clone(), w.clone()))));
             }
         }
         found
@@ -207,11 +160,7 @@ impl Laws {
         let mut found = BTreeSet::new();
         while let Some(name) = todo.pop() {
             if found.insert(name.clone()) {
-                todo.extend(
-                    self.records[&name]
-                        .iter()
-                        .flat_map(|(_, text)| self.named(&name.0, text)),
-                );
+                todo.extend(self.records[&name].iter().flat_map(|(_, text)| self.named(&name.0, text)));
             }
         }
         found
@@ -225,76 +174,44 @@ impl Laws {
             let (of, record) = &line.record;
             let named = format!("{of} {record}.{}", line.field);
             let fields = self.records.get(&line.record);
-            let there = fields.is_some_and(|f| {
-                line.field == "*" || f.iter().any(|(field, _)| *field == line.field)
-            });
+            let there = fields.is_some_and(|f| line.field == "*" || f.iter().any(|(field, _)| *field == line.field));
             if !there {
-                faults.push(format!(
-                    "{named}: edits/laws lists it, and it is not there: was a law deleted?"
-                ));
+                faults.push(format!("{named}: edits/laws lists it, and it is not there: was a law deleted?"));
             }
             let wanted = line.reason.is_empty();
-            let has = edits.iter().any(|e| {
-                e.of == *of
-                    && e.laws
-                        .iter()
-                        .any(|l| l.record == *record && l.field == line.field)
-            });
+            let has = edits.iter().any(|e| e.of == *of && e.laws.iter().any(|l| l.record == *record && l.field == line.field));
             if wanted && !has {
                 faults.push(format!("{named}: no edit in edits/{of} is for this law"));
             }
-            known
-                .entry(line.record.clone())
-                .or_default()
-                .insert(line.field.clone(), wanted);
+            known.entry(line.record.clone()).or_default().insert(line.field.clone(), wanted);
         }
         for name in self.cited() {
             let fields = known.get(&name);
             for (field, _) in &self.records[&name] {
                 if !fields.is_some_and(|f| f.contains_key(field) || f.contains_key("*")) {
-                    faults.push(format!(
-                        "{} {}.{field}: a contract promises it, and edits/laws does not list it",
-                        name.0, name.1
-                    ));
+                    faults.push(format!("{} {}.{field}: a contract promises it, and edits/laws does not list it", name.0, name.1));
                 }
             }
         }
-        for (edit, law) in edits
-            .iter()
-            .flat_map(|e| e.laws.iter().map(move |l| (e, l)))
-        {
+        for (edit, law) in edits.iter().flat_map(|e| e.laws.iter().map(move |l| (e, l))) {
             let fields = known.get(&(edit.of.clone(), law.record.clone()));
             if !fields.is_some_and(|f| f.get(&law.field) == Some(&true)) {
-                faults.push(format!(
-                    "{}/{}: {}.{} is no law that edits/laws wants an edit for",
-                    edit.of, edit.label, law.record, law.field
-                ));
+                faults
+                    .push(format!("{}/{}: {}.{} is no law that edits/laws wants an edit for", edit.of, edit.label, law.record, law.field));
             }
         }
-        (
-            listed.iter().filter(|l| l.reason.is_empty()).count(),
-            faults,
-        )
+        (listed.iter().filter(|l| l.reason.is_empty()).count(), faults)
     }
 
     /// Whether its laws alone refuse an edit: each proof that fails by itself is one that the edit names, the first one named among
     /// them, and of the functions whose contracts carry a law one fails with it.
-    pub fn alone(
-        &self,
-        edit: &Edit,
-        roots: &[Failure],
-        functions: &[String],
-    ) -> Result<(), String> {
+    pub fn alone(&self, edit: &Edit, roots: &[Failure], functions: &[String]) -> Result<(), String> {
         let Some(first) = edit.fails.first() else {
             return Ok(());
         };
-        let is = |(file, names): &(String, Vec<String>), f: &Failure| {
-            *file == f.file && (names.is_empty() || names.contains(&f.declaration))
-        };
-        if let Some(other) = roots
-            .iter()
-            .find(|f| !edit.fails.iter().any(|place| is(place, f)))
-        {
+        let is =
+            |(file, names): &(String, Vec<String>), f: &Failure| *file == f.file && (names.is_empty() || names.contains(&f.declaration));
+        if let Some(other) = roots.iter().find(|f| !edit.fails.iter().any(|place| is(place, f))) {
             return Err(format!("another proof fails: {}", other.line));
         }
         if !roots.iter().any(|f| is(first, f)) {
@@ -302,16 +219,10 @@ impl Laws {
         }
         let short = |name: &String| name.rsplit("::").next().unwrap_or(name).to_string();
         for law in &edit.laws {
-            let carry = self
-                .promises
-                .get(&(edit.of.clone(), law.record.clone()))
-                .filter(|c| !c.is_empty());
+            let carry = self.promises.get(&(edit.of.clone(), law.record.clone())).filter(|c| !c.is_empty());
             let Some(carry) = carry else { continue };
             if !functions.iter().any(|f| carry.contains(&short(f))) {
-                return Err(format!(
-                    "no function that promises {} fails: does its contract still carry the law?",
-                    law.record
-                ));
+                return Err(format!("no function that promises {} fails: does its contract still carry the law?", law.record));
             }
         }
         Ok(())
@@ -320,10 +231,7 @@ impl Laws {
 
 fn listed(list: &str) -> (Vec<Listed>, Vec<String>) {
     let (mut found, mut faults) = (Vec::new(), Vec::new());
-    for line in list
-        .lines()
-        .filter(|l| !l.trim().is_empty() && !l.starts_with('#'))
-    {
+    for line in list.lines().filter(|l| !l.trim().is_empty() && !l.starts_with('#')) {
         let mut parts = line.splitn(3, char::is_whitespace);
         let (of, law, reason) = (parts.next(), parts.next(), parts.next().unwrap_or_default());
         match (of, law.and_then(|l| l.split_once('.'))) {
@@ -332,9 +240,7 @@ fn listed(list: &str) -> (Vec<Listed>, Vec<String>) {
                 field: field.to_string(),
                 reason: reason.trim().to_string(),
             }),
-            _ => faults.push(format!(
-                "edits/laws: '{line}' is no line CRATE RECORD.FIELD [REASON]"
-            )),
+            _ => faults.push(format!("edits/laws: '{line}' is no line CRATE RECORD.FIELD [REASON]")),
         }
     }
     (found, faults)
@@ -354,36 +260,21 @@ mod tests {
         for (record, fields) in records_in(SPECS) {
             laws.records.insert(("c".into(), record), fields);
         }
-        laws.names.extend(
-            names_in(SPECS)
-                .into_iter()
-                .map(|(short, means)| (("c".to_string(), short), means)),
-        );
-        for (function, clause) in
-            clauses_in("pub fn make(o: Order) -> Made\n    ensures { λ r. ⌜ Promised o r ⌝ }\n")
-        {
+        laws.names.extend(names_in(SPECS).into_iter().map(|(short, means)| (("c".to_string(), short), means)));
+        for (function, clause) in clauses_in("pub fn make(o: Order) -> Made\n    ensures { λ r. ⌜ Promised o r ⌝ }\n") {
             for name in laws.named("c", &clause) {
-                laws.promises
-                    .entry(name)
-                    .or_default()
-                    .insert(function.clone());
+                laws.promises.entry(name).or_default().insert(function.clone());
             }
         }
         laws
     }
 
     fn edit() -> Edit {
-        let fails = vec![
-            ("proofs/Laws.antt".into(), vec!["back".into()]),
-            ("proofs/Bench.antt".into(), vec![]),
-        ];
+        let fails = vec![("proofs/Laws.antt".into(), vec!["back".into()]), ("proofs/Bench.antt".into(), vec![])];
         Edit {
             of: "c".into(),
             label: "l".into(),
-            laws: vec![Law {
-                record: "Makes".into(),
-                field: "back".into(),
-            }],
+            laws: vec![Law { record: "Makes".into(), field: "back".into() }],
             fails,
             changes: Changes::new(),
         }
@@ -398,13 +289,7 @@ mod tests {
 
     #[test]
     fn deleted_added_or_without_an_edit() {
-        assert_eq!(
-            laws()
-                .faults(&format!("{LIST}c Makes.gone\n"), &[edit()])
-                .1
-                .len(),
-            2
-        );
+        assert_eq!(laws().faults(&format!("{LIST}c Makes.gone\n"), &[edit()]).1.len(), 2);
         assert_eq!(laws().faults("c Makes.back\n", &[edit()]).1.len(), 1);
         assert_eq!(laws().faults(LIST, &[]).1.len(), 1);
         assert_eq!(laws().faults("c Makes.* later\n", &[edit()]).1.len(), 1);
@@ -412,31 +297,18 @@ mod tests {
 
     #[test]
     fn the_law_alone() {
-        let failure = |(file, declaration): (&str, &str)| Failure {
-            file: file.into(),
-            at: 1,
-            declaration: declaration.into(),
-            line: String::new(),
-        };
+        let failure =
+            |(file, declaration): (&str, &str)| Failure { file: file.into(), at: 1, declaration: declaration.into(), line: String::new() };
         let alone = |roots: &[(&str, &str)], functions: &[&str]| {
             let roots: Vec<Failure> = roots.iter().copied().map(failure).collect();
-            laws()
-                .alone(
-                    &edit(),
-                    &roots,
-                    &functions.iter().map(|f| f.to_string()).collect::<Vec<_>>(),
-                )
-                .is_ok()
+            laws().alone(&edit(), &roots, &functions.iter().map(|f| f.to_string()).collect::<Vec<_>>()).is_ok()
         };
         let law = ("proofs/Laws.antt", "back");
         assert!(alone(&[law], &["c::make"]));
         assert!(alone(&[law, ("proofs/Bench.antt", "sheet")], &["c::make"]));
         assert!(!alone(&[("proofs/Bench.antt", "sheet")], &["c::make"]));
         assert!(!alone(&[law, ("proofs/Laws.antt", "front")], &["c::make"]));
-        assert!(!alone(
-            &[law, ("proofs/make/Proof.antt", "returns")],
-            &["c::make"]
-        ));
+        assert!(!alone(&[law, ("proofs/make/Proof.antt", "returns")], &["c::make"]));
         assert!(!alone(&[law], &["c::inner"]));
         assert!(!alone(&[law], &[]));
     }

@@ -15,14 +15,7 @@ pub struct Mutant {
 
 impl Mutant {
     pub fn label(&self) -> String {
-        format!(
-            "{} {}:{}: {}  =>  {}",
-            self.of,
-            self.file,
-            self.line + 1,
-            self.old.trim(),
-            self.new.trim()
-        )
+        format!("{} {}:{}: {}  =>  {}", self.of, self.file, self.line + 1, self.old.trim(), self.new.trim())
     }
 
     pub fn changes(&self) -> Changes {
@@ -52,9 +45,7 @@ const SWAPS: [(&str, &str); 17] = [
 
 /// Every mutant of a line: each place where a swap applies, and each number one higher and one lower.
 fn of_line(line: &str) -> Vec<String> {
-    let with = |at: usize, length: usize, new: &str| {
-        format!("{}{new}{}", &line[..at], &line[at + length..])
-    };
+    let with = |at: usize, length: usize, new: &str| format!("{}{new}{}", &line[..at], &line[at + length..]);
     let mut found = Vec::new();
     for (a, b) in SWAPS {
         found.extend(line.match_indices(a).map(|(at, _)| with(at, a.len(), b)));
@@ -66,14 +57,8 @@ fn of_line(line: &str) -> Vec<String> {
             None => plain.parse(),
         };
         let Ok(n) = value else { continue };
-        found.extend(
-            n.checked_add(1)
-                .map(|more| with(at, text.len(), &more.to_string())),
-        );
-        found.extend(
-            n.checked_sub(1)
-                .map(|less| with(at, text.len(), &less.to_string())),
-        );
+        found.extend(n.checked_add(1).map(|more| with(at, text.len(), &more.to_string())));
+        found.extend(n.checked_sub(1).map(|less| with(at, text.len(), &less.to_string())));
     }
     found
 }
@@ -100,10 +85,7 @@ fn is_code(line: &str, specs: bool) -> bool {
     let bare = line.trim_start();
     if specs {
         let skipped = ["--", "use ", "pub mod", "mod ", "pub record", "pub data"];
-        return !bare.is_empty()
-            && !skipped.iter().any(|s| bare.starts_with(s))
-            && !line.contains(" : ")
-            && !line.contains('≡');
+        return !bare.is_empty() && !skipped.iter().any(|s| bare.starts_with(s)) && !line.contains(" : ") && !line.contains('≡');
     }
     let skipped = [
         "//",
@@ -132,61 +114,30 @@ fn begins_item(line: &str, specs: bool) -> bool {
     let bare = line.trim_start();
     match specs {
         true => line.contains(" : ") && !line.starts_with(' '),
-        false => ["fn ", "pub fn", "pub(crate) fn", "const ", "pub const"]
-            .iter()
-            .any(|s| bare.starts_with(s)),
+        false => ["fn ", "pub fn", "pub(crate) fn", "const ", "pub const"].iter().any(|s| bare.starts_with(s)),
     }
 }
 
 /// All mutants of a crate, those of one item together.
 fn by_item(root: &Path, of: &str, part: &str, specs: bool) -> Vec<Vec<Mutant>> {
     let folder = root.join("crates").join(of);
-    let (place, kind) = if specs {
-        ("specs", "antt")
-    } else {
-        ("src", "rt")
-    };
-    let mut paths: Vec<_> = fs::read_dir(folder.join(place))
-        .into_iter()
-        .flatten()
-        .flatten()
-        .map(|e| e.path())
-        .collect();
+    let (place, kind) = if specs { ("specs", "antt") } else { ("src", "rt") };
+    let mut paths: Vec<_> = fs::read_dir(folder.join(place)).into_iter().flatten().flatten().map(|e| e.path()).collect();
     paths.sort();
     let mut items: Vec<Vec<Mutant>> = Vec::new();
-    for path in paths
-        .iter()
-        .filter(|p| p.extension().is_some_and(|e| e == kind))
-    {
-        let name = path
-            .file_name()
-            .unwrap_or_default()
-            .to_string_lossy()
-            .to_string();
+    for path in paths.iter().filter(|p| p.extension().is_some_and(|e| e == kind)) {
+        let name = path.file_name().unwrap_or_default().to_string_lossy().to_string();
         if !name.contains(part) || (specs && ["Bench.antt", "Lib.antt"].contains(&name.as_str())) {
             continue;
         }
         items.push(Vec::new());
-        for (at, line) in fs::read_to_string(path)
-            .unwrap_or_default()
-            .split('\n')
-            .enumerate()
-        {
+        for (at, line) in fs::read_to_string(path).unwrap_or_default().split('\n').enumerate() {
             if begins_item(line, specs) {
                 items.push(Vec::new());
             }
             if is_code(line, specs) {
-                let mutant = |new| Mutant {
-                    of: of.to_string(),
-                    file: format!("{place}/{name}"),
-                    line: at,
-                    old: line.to_string(),
-                    new,
-                };
-                items
-                    .last_mut()
-                    .expect("an item")
-                    .extend(of_line(line).into_iter().map(mutant));
+                let mutant = |new| Mutant { of: of.to_string(), file: format!("{place}/{name}"), line: at, old: line.to_string(), new };
+                items.last_mut().expect("an item").extend(of_line(line).into_iter().map(mutant));
             }
         }
     }
@@ -201,37 +152,20 @@ pub fn drawn(root: &Path, of: &str, part: &str, specs: bool, seed: u64) -> Vec<M
     rng.shuffle(&mut items);
     items.iter_mut().for_each(|item| rng.shuffle(item));
     let most = items.iter().map(Vec::len).max().unwrap_or(0);
-    (0..most)
-        .flat_map(|turn| {
-            items
-                .iter()
-                .filter_map(move |item| item.get(turn).cloned())
-                .collect::<Vec<_>>()
-        })
-        .collect()
+    (0..most).flat_map(|turn| items.iter().filter_map(move |item| item.get(turn).cloned()).collect::<Vec<_>>()).collect()
 }
 
 /// The known equal programs: lines `crate:`, `file:`, `old:`, `new:`, with their reason in comments.
 pub fn equal(list: &str) -> Result<Vec<(String, String, String, String)>, String> {
     let (mut of, mut file, mut old) = (String::new(), String::new(), String::new());
     let mut found = Vec::new();
-    for line in list
-        .lines()
-        .filter(|l| !l.is_empty() && !l.starts_with('#'))
-    {
-        let (key, rest) = line
-            .split_once(": ")
-            .ok_or(format!("edits/equal: '{line}' is no line of it"))?;
+    for line in list.lines().filter(|l| !l.is_empty() && !l.starts_with('#')) {
+        let (key, rest) = line.split_once(": ").ok_or(format!("edits/equal: '{line}' is no line of it"))?;
         match key {
             "crate" => of = rest.to_string(),
             "file" => file = rest.to_string(),
             "old" => old = rest.trim().to_string(),
-            "new" => found.push((
-                of.clone(),
-                file.clone(),
-                old.clone(),
-                rest.trim().to_string(),
-            )),
+            "new" => found.push((of.clone(), file.clone(), old.clone(), rest.trim().to_string())),
             _ => return Err(format!("edits/equal: '{line}' is no line of it")),
         }
     }
@@ -263,14 +197,8 @@ mod tests {
 
     #[test]
     fn mutants_of_a_line() {
-        assert_eq!(
-            of_line("if a < 10 {"),
-            ["if a <= 10 {", "if a < 11 {", "if a < 9 {"]
-        );
-        assert_eq!(
-            of_line("&b[0..510]"),
-            ["&b[1..510]", "&b[0..511]", "&b[0..509]"]
-        );
+        assert_eq!(of_line("if a < 10 {"), ["if a <= 10 {", "if a < 11 {", "if a < 9 {"]);
+        assert_eq!(of_line("&b[0..510]"), ["&b[1..510]", "&b[0..511]", "&b[0..509]"]);
         assert_eq!(of_line("x = 0x10;"), ["x = 17;", "x = 15;"]);
         assert_eq!(of_line("a + b + c"), ["a - b + c", "a + b - c"]);
         assert!(of_line("let x2 = y.0;").is_empty());
@@ -279,13 +207,7 @@ mod tests {
 
     #[test]
     fn only_code() {
-        for line in [
-            "// 1 < 2",
-            "    ensures { λ r. ⌜ r ≡ 1 ⌝ }",
-            "pub fn f(a: [u8; 10])",
-            "",
-            "use a::b;",
-        ] {
+        for line in ["// 1 < 2", "    ensures { λ r. ⌜ r ≡ 1 ⌝ }", "pub fn f(a: [u8; 10])", "", "use a::b;"] {
             assert!(!is_code(line, false), "{line}");
         }
         assert!(is_code("    a + 1", false));
@@ -296,15 +218,7 @@ mod tests {
     #[test]
     fn equal_programs() {
         let list = "# why\ncrate: mmc\nfile: src/a.rt\nold:   a < 1\nnew: a <= 0\n";
-        assert_eq!(
-            equal(list).unwrap(),
-            [(
-                "mmc".into(),
-                "src/a.rt".into(),
-                "a < 1".into(),
-                "a <= 0".into()
-            )]
-        );
+        assert_eq!(equal(list).unwrap(), [("mmc".into(), "src/a.rt".into(), "a < 1".into(), "a <= 0".into())]);
         assert!(equal("lore\n").is_err());
     }
 }

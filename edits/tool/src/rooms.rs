@@ -26,10 +26,7 @@ impl Drop for Rooms {
 fn run(command: &mut Command) -> Result<(), String> {
     let done = command.output().map_err(|e| format!("{command:?}: {e}"))?;
     if !done.status.success() {
-        return Err(format!(
-            "{command:?}: {}",
-            String::from_utf8_lossy(&done.stderr)
-        ));
+        return Err(format!("{command:?}: {}", String::from_utf8_lossy(&done.stderr)));
     }
     Ok(())
 }
@@ -55,14 +52,9 @@ fn copy_sources(root: &Path, crates: &[String], room: &Path) -> Result<(), Strin
 
 /// `rt dev` in a room: its exit status and all that it said.
 fn dev(room: &Path, of: &str) -> (i32, String) {
-    match Command::new("timeout")
-        .args([LONGEST, "rt", "dev", of])
-        .current_dir(room)
-        .output()
-    {
+    match Command::new("timeout").args([LONGEST, "rt", "dev", of]).current_dir(room).output() {
         Ok(done) => {
-            let said =
-                String::from_utf8_lossy(&done.stdout) + String::from_utf8_lossy(&done.stderr);
+            let said = String::from_utf8_lossy(&done.stdout) + String::from_utf8_lossy(&done.stderr);
             (done.status.code().unwrap_or(2), said.to_string())
         }
         Err(e) => (2, e.to_string()),
@@ -78,11 +70,7 @@ impl Rooms {
         let warm = std::env::var_os("WARM").map(PathBuf::from);
         for room in &made.rooms {
             copy_sources(root, crates, room)?;
-            for (from, part) in ["rlib", "stamp", "inc"]
-                .map(|part| (root, part))
-                .into_iter()
-                .chain(warm.as_deref().map(|w| (w, "inc")))
-            {
+            for (from, part) in ["rlib", "stamp", "inc"].map(|part| (root, part)).into_iter().chain(warm.as_deref().map(|w| (w, "inc"))) {
                 let from = from.join("target").join(part);
                 if from.is_dir() {
                     let to = room.join("target").join(part);
@@ -100,13 +88,9 @@ impl Rooms {
         if let Err(fault) = copy_sources(root, &names, folder) {
             return vec![fault];
         }
-        let first = crates
-            .iter()
-            .filter(|(_, deps)| !deps.iter().any(|d| crates.contains_key(d)));
+        let first = crates.iter().filter(|(_, deps)| !deps.iter().any(|d| crates.contains_key(d)));
         let said = first.map(|(of, _)| dev(folder, of));
-        said.filter(|(status, _)| *status != 0)
-            .map(|(_, said)| tail(&said))
-            .collect()
+        said.filter(|(status, _)| *status != 0).map(|(_, said)| tail(&said)).collect()
     }
 
     /// Checks crates as they stand, one room for each, and gives what that taught the prover to all rooms.
@@ -118,16 +102,10 @@ impl Rooms {
             let (status, said) = dev(room, of);
             match verdict(status, &said, "") {
                 Verdict::Survives => {
-                    println!(
-                        "{of} is proved as it stands ({:.0} s)",
-                        began.elapsed().as_secs_f64()
-                    );
+                    println!("{of} is proved as it stands ({:.0} s)", began.elapsed().as_secs_f64());
                     proved.lock().unwrap().push((of.clone(), at));
                 }
-                _ => faults
-                    .lock()
-                    .unwrap()
-                    .push(format!("{of} is not proved as it stands:\n{}", tail(&said))),
+                _ => faults.lock().unwrap().push(format!("{of} is not proved as it stands:\n{}", tail(&said))),
             }
         });
         if let Some(fault) = faults.lock().unwrap().first() {
@@ -147,18 +125,11 @@ impl Rooms {
     /// Takes each of the tasks once, in a room that is free.
     pub fn each<T: Sync>(&self, tasks: &[T], work: impl Fn(&Path, usize, &T) + Sync) {
         let left = Mutex::new(tasks.iter());
-        self.until_none(
-            || left.lock().unwrap().next(),
-            |room, at, task| work(room, at, task),
-        );
+        self.until_none(|| left.lock().unwrap().next(), |room, at, task| work(room, at, task));
     }
 
     /// In each room one task after another, until there is none.
-    pub fn until_none<T>(
-        &self,
-        next: impl Fn() -> Option<T> + Sync,
-        work: impl Fn(&Path, usize, T) + Sync,
-    ) {
+    pub fn until_none<T>(&self, next: impl Fn() -> Option<T> + Sync, work: impl Fn(&Path, usize, T) + Sync) {
         std::thread::scope(|scope| {
             for (at, room) in self.rooms.iter().enumerate() {
                 let (next, work) = (&next, &work);
@@ -180,8 +151,7 @@ fn said_of(root: &Path, room: &Path, of: &str, texts: &Texts) -> (i32, String) {
     }
     let said = dev(room, of);
     for file in texts.keys() {
-        fs::copy(root.join("crates").join(of).join(file), folder.join(file))
-            .expect("a room can be written");
+        fs::copy(root.join("crates").join(of).join(file), folder.join(file)).expect("a room can be written");
     }
     said
 }
@@ -205,26 +175,11 @@ pub fn tried(root: &Path, room: &Path, of: &str, changes: &[&Changes]) -> Vec<Ve
         _ => {
             let failures = failures(&said, &folder);
             let built = said.contains("\nlogic=not-proved");
-            let settled: Vec<Option<Verdict>> = bodies
-                .iter()
-                .map(|body| settled(body.as_ref()?, &failures, built))
-                .collect();
-            let open: Vec<&Changes> = changes
-                .iter()
-                .zip(&settled)
-                .filter(|(_, v)| v.is_none())
-                .map(|(c, _)| *c)
-                .collect();
-            let again = if open.len() < changes.len() {
-                tried_or_none(root, room, of, &open)
-            } else {
-                alone(root, room, of, &open)
-            };
+            let settled: Vec<Option<Verdict>> = bodies.iter().map(|body| settled(body.as_ref()?, &failures, built)).collect();
+            let open: Vec<&Changes> = changes.iter().zip(&settled).filter(|(_, v)| v.is_none()).map(|(c, _)| *c).collect();
+            let again = if open.len() < changes.len() { tried_or_none(root, room, of, &open) } else { alone(root, room, of, &open) };
             let mut again = again.into_iter();
-            settled
-                .into_iter()
-                .map(|v| v.unwrap_or_else(|| again.next().expect("a verdict")))
-                .collect()
+            settled.into_iter().map(|v| v.unwrap_or_else(|| again.next().expect("a verdict"))).collect()
         }
     }
 }
@@ -238,21 +193,14 @@ fn tried_or_none(root: &Path, room: &Path, of: &str, changes: &[&Changes]) -> Ve
 }
 
 fn alone(root: &Path, room: &Path, of: &str, changes: &[&Changes]) -> Vec<Verdict> {
-    changes
-        .iter()
-        .flat_map(|c| tried(root, room, of, &[c]))
-        .collect()
+    changes.iter().flat_map(|c| tried(root, room, of, &[c])).collect()
 }
 
 /// What a check of several changes says of the one in a function's body, if it says something.
 fn settled(body: &Body, failures: &[Failure], built: bool) -> Option<Verdict> {
     let own: Vec<Failure> = failures.iter().filter(|f| body.has(f)).cloned().collect();
     let first = own.first()?.line.clone();
-    Some(if built {
-        refused(own, vec![])
-    } else {
-        Verdict::NotBuilt(first)
-    })
+    Some(if built { refused(own, vec![]) } else { Verdict::NotBuilt(first) })
 }
 
 fn tail(said: &str) -> String {
