@@ -110,18 +110,18 @@ impl Tally {
 
 fn main() -> ExitCode {
     let words: Vec<String> = std::env::args().skip(1).collect();
+    let root = std::env::current_dir().expect("a folder to work in");
+    if let [word, folder] = &words[..] {
+        if word == "warm" {
+            let faults = Rooms::warm(&root, Path::new(folder), &crates_in(&root));
+            faults.iter().for_each(|fault| eprintln!("{fault}"));
+            return ExitCode::from(u8::from(!faults.is_empty()));
+        }
+    }
     let Some(wanted) = wanted(&words) else {
         eprintln!("{USAGE}");
         return ExitCode::from(2);
     };
-    let root = std::env::current_dir().expect("a folder to work in");
-    if let [word, folder] = &words[..] {
-        if word == "warm" {
-            let done = Rooms::warm(&root, Path::new(folder), &crates_in(&root));
-            done.iter().for_each(|fault| eprintln!("{fault}"));
-            return ExitCode::from(u8::from(!done.is_empty()));
-        }
-    }
     let tally = Tally::default();
     if let Err(why) = work(&root, &wanted, &tally) {
         tally.fail(&why);
