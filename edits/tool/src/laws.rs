@@ -169,6 +169,7 @@ impl Laws {
     /// What is wrong with `edits/laws`, the records and the edits, taken together; and how many laws there are.
     pub fn faults(&self, list: &str, edits: &[Edit]) -> (usize, Vec<String>) {
         let (listed, mut faults) = listed(list);
+        let cited = self.cited();
         let mut known: BTreeMap<Name, BTreeMap<String, bool>> = BTreeMap::new();
         for line in &listed {
             let (of, record) = &line.record;
@@ -177,6 +178,8 @@ impl Laws {
             let there = fields.is_some_and(|f| line.field == "*" || f.iter().any(|(field, _)| *field == line.field));
             if !there {
                 faults.push(format!("{named}: edits/laws lists it, and it is not there: was a law deleted?"));
+            } else if !cited.contains(&line.record) {
+                faults.push(format!("{named}: edits/laws lists it, and no contract cites {record}: was a promise deleted?"));
             }
             let wanted = line.reason.is_empty();
             let has = edits.iter().any(|e| e.of == *of && e.laws.iter().any(|l| l.record == *record && l.field == line.field));
@@ -185,7 +188,7 @@ impl Laws {
             }
             known.entry(line.record.clone()).or_default().insert(line.field.clone(), wanted);
         }
-        for name in self.cited() {
+        for name in cited {
             let fields = known.get(&name);
             for (field, _) in &self.records[&name] {
                 if !fields.is_some_and(|f| f.contains_key(field) || f.contains_key("*")) {
@@ -293,6 +296,9 @@ mod tests {
         assert_eq!(laws().faults("c Makes.back\n", &[edit()]).1.len(), 1);
         assert_eq!(laws().faults(LIST, &[]).1.len(), 1);
         assert_eq!(laws().faults("c Makes.* later\n", &[edit()]).1.len(), 1);
+        let mut uncited = laws();
+        uncited.promises.clear();
+        assert_eq!(uncited.faults(LIST, &[edit()]).1.len(), 2);
     }
 
     #[test]
