@@ -12,8 +12,8 @@ use Rattle.print.proofs.finish.Statement.{statement}
 use Rattle.print.proofs.finish.Tie as tie
 
 -- the reads so far, and the turns that are left
-abbrev Led : Run → Run → ℕ → Type 0
-Led before run turns = (reads : List (List ℕ)) × (run ≡ afterReads before reads) × (length reads + turns ≡ 18446744073709551615)
+abbrev ReadsSoFar : Run → Run → ℕ → Type 0
+ReadsSoFar before run turns = (reads : List (List ℕ)) × (run ≡ afterReads before reads) × (length reads + turns ≡ 18446744073709551615)
 
 -- a read more, where a reply is awaited, and its text written out
 one-more : (first run next out : Run) (reads : List (List ℕ)) (s buffer : List ℕ) → run ≡ afterReads first reads → run .waiting ≡ true → stageIn next buffer ≡ readOn (run .state) s → Sends next out → out ≡ afterReads first (s ∷ reads)
@@ -23,7 +23,7 @@ one-more first run next out reads s buffer e w h f =
     o ∙ ap writtenOut h ∙ rw (← e, w) refl
 
 abbrev Inv-loop : tie.InvT-loop
-Inv-loop input₀ text₀ run₀ turns₀ input text run turns = (length input ≡ length input₀) × (length text ≡ length text₀) × (run .used ≡ 0) × Led run₀ run turns
+Inv-loop input₀ text₀ run₀ turns₀ input text run turns = (length input ≡ length input₀) × (length text ≡ length text₀) × (run .used ≡ 0) × ReadsSoFar run₀ run turns
 
 abbrev μ-loop : tie.MeasureT-loop
 μ-loop input₀ text₀ run₀ turns₀ input text run turns = turns
