@@ -153,8 +153,7 @@ fn work(root: &Path, wanted: &Wanted, tally: &Tally) -> Result<(), String> {
     let mut mutants: BTreeMap<String, Vec<Mutant>> = BTreeMap::new();
     for of in names.iter().filter(|of| wanted.mutants && named(of, "") && !(wanted.names.is_empty() && unpromised(root, of))) {
         let drawn = mutants::drawn(root, of, &wanted.file, wanted.specs, wanted.seed);
-        let known =
-            |m: &Mutant| equal.iter().any(|(a, b, c, d)| (a, b, c.as_str(), d.as_str()) == (&m.of, &m.file, m.old.trim(), m.new.trim()));
+        let known = |m: &Mutant| equal.iter().any(|e| e.is(m));
         mutants.insert(of.clone(), drawn.into_iter().filter(|m| !known(m)).collect());
     }
     if wanted.list {

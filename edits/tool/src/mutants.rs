@@ -8,6 +8,8 @@ use std::path::Path;
 pub struct Mutant {
     pub of: String,
     pub file: String,
+    /// the function or constant that it is in
+    pub item: String,
     pub line: usize,
     pub old: String,
     pub new: String,
@@ -118,6 +120,13 @@ fn begins_item(line: &str, specs: bool) -> bool {
     }
 }
 
+/// The name that such a line gives: the last word before its parameters or its type.
+fn item_name(line: &str) -> String {
+    let bare = line.trim_start().trim_start_matches("pub(crate) ");
+    let head = bare.split(['(', ':']).next().unwrap_or_default();
+    head.split_whitespace().last().unwrap_or_default().to_string()
+}
+
 /// All mutants of a crate, those of one item together.
 fn by_item(root: &Path, of: &str, part: &str, specs: bool) -> Vec<Vec<Mutant>> {
     let folder = root.join("crates").join(of);
@@ -131,12 +140,16 @@ fn by_item(root: &Path, of: &str, part: &str, specs: bool) -> Vec<Vec<Mutant>> {
             continue;
         }
         items.push(Vec::new());
+        let mut item = String::new();
         for (at, line) in fs::read_to_string(path).unwrap_or_default().split('\n').enumerate() {
             if begins_item(line, specs) {
                 items.push(Vec::new());
+                item = item_name(line);
             }
             if is_code(line, specs) {
-                let mutant = |new| Mutant { of: of.to_string(), file: format!("{place}/{name}"), line: at, old: line.to_string(), new };
+                let file = format!("{place}/{name}");
+                let mutant =
+                    |new| Mutant { of: of.to_string(), file: file.clone(), item: item.clone(), line: at, old: line.to_string(), new };
                 items.last_mut().expect("an item").extend(of_line(line).into_iter().map(mutant));
             }
         }
@@ -155,17 +168,38 @@ pub fn drawn(root: &Path, of: &str, part: &str, specs: bool, seed: u64) -> Vec<M
     (0..most).flat_map(|turn| items.iter().filter_map(move |item| item.get(turn).cloned()).collect::<Vec<_>>()).collect()
 }
 
-/// The known equal programs: lines `crate:`, `file:`, `old:`, `new:`, with their reason in comments.
-pub fn equal(list: &str) -> Result<Vec<(String, String, String, String)>, String> {
-    let (mut of, mut file, mut old) = (String::new(), String::new(), String::new());
+/// A known equal program: its crate, file, and function or constant, with the old and the new line.
+#[derive(Clone, Debug, Default, PartialEq)]
+pub struct Equal {
+    of: String,
+    file: String,
+    item: String,
+    old: String,
+    new: String,
+}
+
+impl Equal {
+    pub fn is(&self, m: &Mutant) -> bool {
+        (&self.of, &self.file, &self.item) == (&m.of, &m.file, &m.item) && self.old == m.old.trim() && self.new == m.new.trim()
+    }
+}
+
+/// The known equal programs: lines `crate:`, `file:`, `in:`, `old:`, `new:`, with their reason in comments.
+pub fn equal(list: &str) -> Result<Vec<Equal>, String> {
+    let mut now = Equal::default();
     let mut found = Vec::new();
     for line in list.lines().filter(|l| !l.is_empty() && !l.starts_with('#')) {
         let (key, rest) = line.split_once(": ").ok_or(format!("edits/equal: '{line}' is no line of it"))?;
+        let rest = rest.trim().to_string();
         match key {
-            "crate" => of = rest.to_string(),
-            "file" => file = rest.to_string(),
-            "old" => old = rest.trim().to_string(),
-            "new" => found.push((of.clone(), file.clone(), old.clone(), rest.trim().to_string())),
+            "crate" => now.of = rest,
+            "file" => now.file = rest,
+            "in" => now.item = rest,
+            "old" => now.old = rest,
+            "new" => {
+                now.new = rest;
+                found.push(now.clone());
+            }
             _ => return Err(format!("edits/equal: '{line}' is no line of it")),
         }
     }
@@ -217,8 +251,15 @@ mod tests {
 
     #[test]
     fn equal_programs() {
-        let list = "# why\ncrate: mmc\nfile: src/a.rt\nold:   a < 1\nnew: a <= 0\n";
-        assert_eq!(equal(list).unwrap(), [("mmc".into(), "src/a.rt".into(), "a < 1".into(), "a <= 0".into())]);
+        let list = "# why\ncrate: mmc\nfile: src/a.rt\nin: f\nold:   a < 1\nnew: a <= 0\n";
+        let equal_to = |item: &str| {
+            let (of, file, item) = ("mmc".into(), "src/a.rt".into(), item.into());
+            equal(list).unwrap()[0].is(&Mutant { of, file, item, line: 7, old: "    a < 1".into(), new: "    a <= 0".into() })
+        };
+        assert!(equal_to("f"));
+        assert!(!equal_to("g"));
+        assert_eq!(item_name("pub(crate) fn f(a: u8) -> u8"), "f");
+        assert_eq!(item_name("const A: u8 = 1;"), "A");
         assert!(equal("lore\n").is_err());
     }
 }
