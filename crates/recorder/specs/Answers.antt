@@ -1,16 +1,17 @@
 -- What the answers say, in document 01's numbers and values.
-use mathlib.Core.List.{List}
-use Prim.Native.Nat.{ℕ}
-use lib.ListN.{replicate}
-use Rattle.mmc.specs.Refusals.{Outcome, pass, numberOf, bufferOf}
+use mathlib.Core.List.{List, [], _++_}
+use Prim.Native.Nat.{ℕ, _+_, _-_, _*_}
+use lib.ListN.{length, take, replicate}
+use Rattle.mmc.specs.Refusals.{Outcome, pass, numberOf, valueOr}
 use Rattle.mmc.specs.Commands.{getConfiguration, readDiscInformation, readTrackInformation, modeSelect, sendCueSheet, writeCommand, synchronizeCache, closeTrackSession}
-use Rattle.mmc.specs.Sheet.{sheetLength}
-use Rattle.mmc.specs.declared.order.Order.{Order}
 use Rattle.recorder.specs.declared.replies.Sense.{Sense}
-use Rattle.recorder.specs.declared.job.Command.{Command}
-use Rattle.recorder.specs.declared.job.Command.the-variants.{GetConfiguration, ReadDiscInformation, ReadTrackInformation, ModeSelect, SendCueSheet, Write, SynchronizeCache, CloseTrack, CloseSession}
-use Rattle.recorder.specs.declared.job.Answer.{Answer}
-use Rattle.recorder.specs.declared.job.Answer.the-variants as A
+use Rattle.recorder.specs.declared.script.Op.{Op}
+use Rattle.recorder.specs.declared.script.Op.the-variants.{GetConfiguration, ReadDiscInformation, ReadTrackInformation, ModeSelect, SendCueSheet, Write, SynchronizeCache, CloseTrack, CloseSession}
+use Rattle.mmc.specs.declared.units.BlockAddress.{BlockAddress}
+use Rattle.recorder.specs.declared.answers.Command.{Command}
+use Rattle.recorder.specs.declared.answers.Cdb.{Cdb}
+use Rattle.recorder.specs.declared.answers.Answer.{Answer}
+use Rattle.recorder.specs.declared.answers.Answer.the-variants as A
 
 -- why a job stops: "A refusal returns its number (12 also its triple)"
 pub data Why : Type 0 where
@@ -34,24 +35,37 @@ said A.Done = done
 said (A.Stop r) = stop (because (numberOf r))
 said (A.DriveFailed s) = stop (drive-failed s)
 
--- the bytes of a command are those of its maker: 5Dh bears the length of the order's cue sheet, "5Bh function 1, track FFh",
--- "5Bh function 2, track 0"
-abbrev pub madeFor : Order → Command → Outcome (List ℕ)
-madeFor o GetConfiguration = pass getConfiguration
-madeFor o ReadDiscInformation = pass readDiscInformation
-madeFor o ReadTrackInformation = pass readTrackInformation
-madeFor o (ModeSelect t) = pass modeSelect
-madeFor o SendCueSheet = sendCueSheet (sheetLength o)
-madeFor o (Write t f k a) = writeCommand a k
-madeFor o SynchronizeCache = pass synchronizeCache
-madeFor o CloseTrack = closeTrackSession 1 (record { 0 = 0xFF })
-madeFor o CloseSession = closeTrackSession 2 (record { 0 = 0 })
+-- ---- the bytes of a command
 
--- ten zeros stand where no command is given
-abbrev pub noBytes : List ℕ
-noBytes = replicate 10 0
+-- 5Dh announces 8 bytes for each of n+3 entries
+abbrev pub sheetBytes : ℕ → ℕ
+sheetBytes n = 8 * (n + 3)
 
-abbrev pub bytesOf : Order → Ruling → List ℕ
-bytesOf o (issue c) = bufferOf (madeFor o c) noBytes
-bytesOf o done = noBytes
-bytesOf o (stop w) = noBytes
+-- those of its maker, in a job of n tracks: a WRITE starts at the command's address, "5Bh function 1, track FFh", "5Bh function 2, track 0"
+abbrev pub madeBy : ℕ → BlockAddress → Op → Outcome (List ℕ)
+madeBy n a GetConfiguration = pass getConfiguration
+madeBy n a ReadDiscInformation = pass readDiscInformation
+madeBy n a (ReadTrackInformation t) = pass readTrackInformation
+madeBy n a (ModeSelect t) = pass modeSelect
+madeBy n a SendCueSheet = sendCueSheet (sheetBytes n)
+madeBy n a (Write t f k) = writeCommand a k
+madeBy n a (SynchronizeCache t) = pass synchronizeCache
+madeBy n a (CloseTrack t) = closeTrackSession 1 (record { 0 = 0xFF })
+madeBy n a CloseSession = closeTrackSession 2 (record { 0 = 0 })
+
+abbrev pub madeFor : ℕ → Command → Outcome (List ℕ)
+madeFor n c = madeBy n (c .address) (c .op)
+
+-- the bytes that go with an answer: none where no command is given
+abbrev pub bytesOf : ℕ → Ruling → List ℕ
+bytesOf n (issue c) = valueOr [] (madeFor n c)
+bytesOf n done = []
+bytesOf n (stop w) = []
+
+-- a command descriptor block of these bytes, with zeros up to twelve
+unfoldable pub cdbOf : List ℕ → Cdb
+cdbOf bytes = record { bytes = bytes ++ replicate (12 - length bytes) 0; length = length bytes }
+
+-- and the bytes of one
+abbrev pub bytesIn : Cdb → List ℕ
+bytesIn c = take (c .length) (c .bytes)

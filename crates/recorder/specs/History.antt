@@ -4,30 +4,30 @@ use mathlib.Core.Path.{_≡_}
 use mathlib.Core.Logic.{_↔_}
 use mathlib.Core.Bool.{Bool, true, false}
 use mathlib.Core.List.{List, [], _∷_, _++_}
-use Prim.Native.Nat.{ℕ, _+_, _≤_, _<_, min}
+use Prim.Native.Nat.{ℕ, suc, _+_, _-_, _≤_, _<_, min}
 use lib.ListN.{length, getD}
 use Rattle.mmc.specs.Refusals.{Outcome, pass, refuse}
-use Rattle.mmc.specs.Order.{tracksIn, allLong, blocksOf}
+use Rattle.mmc.specs.Order.{noTrack, tracksIn, allLong, blocksOf}
 use Rattle.mmc.specs.OrderBlock.{readOrder}
+use Rattle.mmc.specs.Page.{modeData}
+use Rattle.mmc.specs.Sheet.{cueSheet}
 use Rattle.mmc.specs.Times.{lastAddress, framesTo}
 use Rattle.mmc.specs.ReplyBlock.{Reply, replyOf}
-use Rattle.mmc.specs.declared.units.BlockAddress.{BlockAddress}
-use Rattle.mmc.specs.declared.units.BlockCount.{BlockCount}
 use Rattle.mmc.specs.declared.units.TrackNumber.{TrackNumber}
 use Rattle.mmc.specs.declared.order.Order.{Order}
-use Rattle.mmc.specs.declared.order.Method.{Method}
-use Rattle.mmc.specs.declared.order.Method.the-variants.{Tao, Sao}
-use Rattle.recorder.specs.declared.job.Command.{Command}
-use Rattle.recorder.specs.declared.job.Command.the-variants.{Write}
+use Rattle.recorder.specs.declared.script.Op.{Op}
+use Rattle.recorder.specs.declared.script.Op.the-variants.{ModeSelect, SendCueSheet}
+use Rattle.recorder.specs.declared.answers.Command.{Command}
 use Rattle.recorder.specs.declared.job.Recorder.{Recorder}
 use Rattle.recorder.specs.declared.job.Step.{Step}
-use Rattle.recorder.specs.Answers.{Why, because, Ruling, issue, done, stop, madeFor}
-use Rattle.recorder.specs.Script.{Block, script, expected}
-use Rattle.recorder.specs.Exchanges.{Exchange, gather, recorded, occupied, starts, frees, latest}
-use Rattle.recorder.specs.Rules.{none, found, mixedOrKept, refusal, ruled, exchanged, play, orderedIn, AllClosed}
+use Rattle.recorder.specs.Answers.{Why, because, Ruling, issue, done, stop, sheetBytes, madeFor, bytesIn}
+use Rattle.recorder.specs.Script.{gather, stepwise, write, Block, script, expected}
+use Rattle.recorder.specs.Exchanges.{Exchange, recorded, occupied, seen, Named, named}
+use Rattle.recorder.specs.Rules.{otherProfile, unsuitable, mixedOrKept, none, found, refusal, ruled, exchanged, play, orderedIn, AllClosed}
 use Rattle.recorder.specs.Job.{Next, nextIn, mostCommands, unchanged, validOf, takeOf, giveOf}
 
--- what the calls gave back since the order was taken: the last step, all answers, and the commands with the replies to them
+-- what the calls gave back since the order was taken: the last step; all answers, and the commands with the replies to them, the
+-- latest first
 pub record History : Type 0 where
   pub last : Next
   pub answers : List Ruling
@@ -41,8 +41,8 @@ unfoldable pub given : History → Reply → History
 given h y =
     record {
       last = giveOf (h .last .state) (y .good) (y .bytes);
-      answers = h .answers ++ (giveOf (h .last .state) (y .good) (y .bytes) .answer ∷ []);
-      exchanges = h .exchanges ++ exchanged (h .last .answer) y;
+      answers = giveOf (h .last .state) (y .good) (y .bytes) .answer ∷ h .answers;
+      exchanges = exchanged (h .last .answer) y (h .exchanges);
     }
 
 unfoldable pub givenAll : History → List Reply → History
@@ -69,34 +69,64 @@ pub data Ending : Type 0 where
   as-done : Ending
   as-stop : Why → Ending
 
+abbrev pub ending : Ruling → Ending
+ending (issue c) = going
+ending done = as-done
+ending (stop w) = as-stop w
+
+abbrev pub sooner : Ending → Ending → Ending
+sooner going x = x
+sooner as-done x = as-done
+sooner (as-stop w) x = as-stop w
+
 -- how the job has ended: by the first answer that is no command
 abbrev pub ended : List Ruling → Ending
 ended [] = going
-ended (issue c ∷ xs) = ended xs
-ended (done ∷ xs) = as-done
-ended (stop w ∷ xs) = as-stop w
+ended (a ∷ xs) = sooner (ended xs) (ending a)
+
+-- ---- what goes with a command that is given
+
+-- "55h goes with the mode data of the order and its track's kind, 5Dh with the order's cue sheet; the host gets both from their makers",
+-- which refuse neither
+pub record Accompanied (o : Order) (x : Op) : Type 0 where
+  pub page : (t : TrackNumber) → x ≡ ModeSelect t → (bytes : List ℕ) × (modeData o (getD (o .tracks) (t .0 - 1) noTrack .kind) ≡ pass bytes)
+  pub sheet : x ≡ SendCueSheet → (bytes : List ℕ) × ((cueSheet o ≡ pass bytes) × (length bytes ≡ sheetBytes (o .count)))
 
 -- ---- no track is begun at a stale address
 
--- a WRITE answered good, given the exchanges before it: its track is that of the latest 52h answered good, it lies at the address
--- that this 52h named plus its first block, and it ends within the free blocks that it named
-pub record Fresh (before : List Exchange) (e : Exchange) : Type 0 where
-  pub of-track : (t : TrackNumber) (f k : BlockCount) (a : BlockAddress) → e .reply .good ≡ true → e .command ≡ Write t f k a → t .0 ≡ length (starts before)
-  pub named : (t : TrackNumber) (f k : BlockCount) (a : BlockAddress) → e .reply .good ≡ true → e .command ≡ Write t f k a → framesTo a .0 ≡ latest (starts before) + f .0
-  pub within : (t : TrackNumber) (f k : BlockCount) (a : BlockAddress) → e .reply .good ≡ true → e .command ≡ Write t f k a → f .0 + k .0 ≤ latest (frees before)
+-- a WRITE of k blocks of the track t from its block f on, given what the latest 52h named: it was named for this track, the WRITE lies
+-- at the named address plus its first block, and it ends within the free blocks
+pub record FreshWrite (n : Named) (c : Command) (t f k : ℕ) : Type 0 where
+  pub of-track : t ≡ n .track
+  pub at-address : framesTo (c .address) .0 ≡ n .start + f
+  pub within : f + k ≤ n .free
 
--- each exchange, given those before it
-abbrev pub Each : (List Exchange → Exchange → Type 0) → List Exchange → List Exchange → Type 0
-Each P before [] = Unit {0}
-Each P before (e ∷ es) = P before e × Each P (before ++ (e ∷ [])) es
+-- a command, given the exchanges before it
+abbrev pub Fresh : List Exchange → Command → Type 0
+Fresh before c = (t f k : ℕ) → c .op ≡ write t f k → FreshWrite (named before) c t f k
 
-abbrev pub NeverStaleBy : Method → List Exchange → Type 0
-NeverStaleBy Tao es = Each Fresh [] es
-NeverStaleBy Sao es = Unit {0}
+-- each command that was answered, and the one that is given
+abbrev pub EachFresh : List Exchange → Type 0
+EachFresh [] = Unit {0}
+EachFresh (e ∷ es) = Fresh es (e .command) × EachFresh es
 
-abbrev pub NeverStale : Outcome Order → List Exchange → Type 0
-NeverStale (pass o) es = NeverStaleBy (o .method) es
-NeverStale (refuse n) es = Unit {0}
+abbrev pub FreshAnswer : List Exchange → Ruling → Type 0
+FreshAnswer es (issue c) = Fresh es c
+FreshAnswer es done = Unit {0}
+FreshAnswer es (stop w) = Unit {0}
+
+-- ---- part 7
+
+-- "all replies, each good"
+abbrev pub AllMarkedGood : List Reply → Type 0
+AllMarkedGood [] = Unit {0}
+AllMarkedGood (y ∷ ys) = (y .good ≡ true) × AllMarkedGood ys
+
+-- "it is done after exactly the count in document 01": of so many replies
+pub record AllGood (o : Order) (k : ℕ) (answers : List Ruling) : Type 0 where
+  pub given-count : length (commands answers) ≡ min (k + 1) (expected o)
+  pub done-at : expected o ≤ k → ended answers ≡ as-done
+  pub not-before : k < expected o → ended answers ≡ going
 
 -- ---- demand 3
 
@@ -107,8 +137,9 @@ pub record Whole (b : List ℕ) (rs : List Reply) (h : History) : Type 0 where
   pub as-ruled : length (h .exchanges) ≡ length rs → h .last .answer ≡ ruled (readOrder b) (h .exchanges)
   pub after-end : length (h .exchanges) < length rs → h .last .answer ≡ stop (because 13)
   pub unmoved : (ended (h .answers) ≡ going → ⊥) → (y : Reply) → given h y .last ≡ unchanged (h .last .state) 13
-  -- the bytes of a command are those of its maker, which refuses none
-  pub made : (o : Order) → readOrder b ≡ pass o → (c : Command) → h .last .answer ≡ issue c → madeFor o c ≡ pass (h .last .bytes)
+  -- the bytes of a command are those of its maker, which refuses none; so are the mode data and the cue sheet that go with it
+  pub made : (o : Order) → readOrder b ≡ pass o → (c : Command) → h .last .answer ≡ issue c → madeFor (o .count) c ≡ pass (bytesIn (h .last .cdb))
+  pub accompanied : (o : Order) → readOrder b ≡ pass o → (c : Command) → h .last .answer ≡ issue c → Accompanied o (c .op)
   -- 2: "The track blocks answered good are always a beginning of the ordered ones, each once, in order"
   pub in-order : (rest : List Block) × (recorded (h .exchanges) ++ rest ≡ orderedIn (readOrder b))
   -- 3: "within a job no address takes two blocks"
@@ -120,22 +151,15 @@ pub record Whole (b : List ℕ) (rs : List Reply) (h : History) : Type 0 where
   -- 6: the count in state and result is "the number of those commands", up to 2^64 - 1
   pub counted : h .last .state .count ≡ min (length (commands (h .answers))) mostCommands
   pub reported : h .last .count ≡ min (length (commands (h .answers))) mostCommands
+  -- 7: "If the order and all replies, each good and well formed, pass the checks, it is done after exactly the count in document 01"
+  pub all-good : (o : Order) → readOrder b ≡ pass o → AllMarkedGood rs → refusal (pass o) (h .exchanges) ≡ none → AllGood o (length rs) (h .answers)
   -- 8: "every state that a history gives passes it", the recorder's own test
   pub is-valid : validOf (h .last .state) ≡ true
-  -- "a track begun at a stale address spoils the disc"
-  pub never-stale : NeverStale (readOrder b) (h .exchanges)
+  -- "a track begun at a stale address spoils the disc": of every WRITE that is given
+  pub never-stale : (o : Order) → readOrder b ≡ pass o → stepwise (o .method) ≡ true → EachFresh (h .exchanges) × FreshAnswer (h .exchanges) (h .last .answer)
 
--- 7: "If the order and all replies, each good and well formed, pass the checks, it is done after exactly the count in document 01"
-abbrev pub AllMarkedGood : List Reply → Type 0
-AllMarkedGood [] = Unit {0}
-AllMarkedGood (y ∷ ys) = (y .good ≡ true) × AllMarkedGood ys
+-- ---- part 7 speaks of something
 
-pub record AllGood (b : List ℕ) (o : Order) (rs : List Reply) : Type 0 where
-  pub given-count : length (commands (history b rs .answers)) ≡ min (length rs + 1) (expected o)
-  pub done-at : expected o ≤ length rs → ended (history b rs .answers) ≡ as-done
-  pub not-before : length rs < expected o → ended (history b rs .answers) ≡ going
-
--- there are such replies, and they are bytes: good ones that the rules pass, one for each command of the script
 abbrev pub Bytes : List ℕ → Type 0
 Bytes d = (k : ℕ) → getD d k 0 < 256
 
@@ -143,11 +167,14 @@ abbrev pub AllBytes : List Reply → Type 0
 AllBytes [] = Unit {0}
 AllBytes (y ∷ ys) = Bytes (y .bytes) × AllBytes ys
 
-pub record Passing (o : Order) (rs : List Reply) : Type 0 where
+-- replies that are bytes, good ones that the rules pass, one for each command of the script, from a disc of this profile and status
+pub record Passing (o : Order) (profile status : ℕ) (rs : List Reply) : Type 0 where
   pub all-bytes : AllBytes rs
   pub marked : AllMarkedGood rs
   pub unrefused : refusal (pass o) (play (pass o) [] rs) ≡ none
   pub enough : length rs ≡ expected o
+  pub of-profile : seen (o .method) (play (pass o) [] rs) .profile ≡ profile
+  pub of-status : seen (o .method) (play (pass o) [] rs) .status ≡ status
 
 -- an order that passes 8, 9 and the lead-out limit
 pub record Recordable (o : Order) : Type 0 where
@@ -155,22 +182,28 @@ pub record Recordable (o : Order) : Type 0 where
   pub long : allLong (tracksIn o) ≡ true
   pub ends : blocksOf (tracksIn o) ≤ lastAddress
 
+-- a disc that passes 5 and 6
+pub record Suitable (o : Order) (profile status : ℕ) : Type 0 where
+  pub profile-so : otherProfile profile ≡ false
+  pub status-so : unsuitable (o .method) status ≡ false
+
 -- ---- what the calls promise
 
 -- what a call gives back is the last step of a history, and all of demand 3 holds of that history
-pub record Extends (b : List ℕ) (rs : List Reply) (s : Next) : Type 0 where
+pub record OfHistory (b : List ℕ) (rs : List Reply) (s : Next) : Type 0 where
   pub is-last : s ≡ history b rs .last
   pub whole : Whole b rs (history b rs)
-  pub all-good : (o : Order) → readOrder b ≡ pass o → AllMarkedGood rs → refusal (pass o) (play (pass o) [] rs) ≡ none → AllGood b o rs
 
 -- `take`: the plain job's step, demand 3 of the empty list of replies, the exact count, and that replies exist for part 7
 pub record Takes (b : List ℕ) (s : Step) : Type 0 where
   pub step : nextIn s ≡ takeOf b
-  pub whole : Extends b [] (nextIn s)
+  pub begins : OfHistory b [] (nextIn s)
   pub script-length : (o : Order) → readOrder b ≡ pass o → length (script o) ≡ expected o
-  pub can-pass : (o : Order) → readOrder b ≡ pass o → Recordable o → (rs : List Reply) × Passing o rs
+  pub can-pass : (o : Order) → readOrder b ≡ pass o → Recordable o → (profile status : ℕ) → Suitable o profile status → (rs : List Reply) × Passing o profile status rs
 
--- `give`: the plain job's step, and demand 3 of every history that this reply goes on with
+-- `give`: the plain job's step; demand 3 of every history that this reply goes on with; and of every state, also one that no history
+-- gives: the bytes of a command that is given are those of its maker, which refuses none
 pub record Gives (r : Recorder) (good : Bool) (d : List ℕ) (s : Step) : Type 0 where
   pub step : nextIn s ≡ giveOf r good d
-  pub whole : (b : List ℕ) (rs : List Reply) → r ≡ history b rs .last .state → Extends b (rs ++ (replyOf good d ∷ [])) (nextIn s)
+  pub goes-on : (b : List ℕ) (rs : List Reply) → r ≡ history b rs .last .state → OfHistory b (rs ++ (replyOf good d ∷ [])) (nextIn s)
+  pub made : (c : Command) → nextIn s .answer ≡ issue c → madeFor (r .order .count) c ≡ pass (bytesIn (s .cdb))

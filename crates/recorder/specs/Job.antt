@@ -1,282 +1,233 @@
 -- The plain job: "It holds the order, the fields read, its place in the sequence of commands above, start and end of the latest
 -- track, and the command count."
+use mathlib.Core.Path.{_≡_}
 use mathlib.Core.Bool.{Bool, true, false, not, _&&_}
-use mathlib.Core.List.{List}
+use mathlib.Core.List.{List, []}
 use Prim.Native.Nat.{ℕ, zero, suc, _+_, _-_, _^_, min}
-use lib.Dec.{ltb, leb}
+use lib.ListN.{getD}
+use lib.Dec.{ltb, leb, eqb}
 use Rattle.mmc.specs.Bytes.{if}
 use Rattle.mmc.specs.Refusals.{Outcome, pass, refuse, numberOf}
-use Rattle.mmc.specs.Order.{mostTracks, isSao, noOrder}
+use Rattle.mmc.specs.Order.{mostTracks, noTrack, noOrder}
 use Rattle.mmc.specs.OrderBlock.{readOrder}
-use Rattle.mmc.specs.Times.{leadFrames, framesTo, addressAt}
+use Rattle.mmc.specs.Times.{leadFrames, addressAt}
+use Rattle.mmc.specs.ReplyBlock.{replyOf}
+use Rattle.mmc.specs.declared.units.FrameCount.{FrameCount}
 use Rattle.mmc.specs.declared.order.Order.{Order}
 use Rattle.mmc.specs.declared.order.Method.{Method}
 use Rattle.mmc.specs.declared.order.Method.the-variants.{Tao, Sao}
-use Rattle.recorder.specs.declared.replies.Failure.{Failure}
-use Rattle.recorder.specs.declared.replies.Failure.the-variants.{Busy, Failed}
-use Rattle.recorder.specs.declared.replies.TrackInformation.{TrackInformation}
-use Rattle.recorder.specs.declared.job.Command.{Command}
-use Rattle.recorder.specs.declared.job.Command.the-variants.{GetConfiguration, ReadDiscInformation, ReadTrackInformation, ModeSelect, SendCueSheet, Write, SynchronizeCache, CloseTrack, CloseSession}
-use Rattle.recorder.specs.declared.job.Place.{Place}
-use Rattle.recorder.specs.declared.job.Place.the-variants.{AtConfiguration, AtDiscInformation, AtTrackInformation, AtPage, AtCueSheet, AtWrite, AtSynchronize, AtCloseTrack, AtCloseSession, Finished, Stopped}
+use Rattle.recorder.specs.declared.script.Op.{Op}
+use Rattle.recorder.specs.declared.script.Op.the-variants.{GetConfiguration, ReadDiscInformation, ReadTrackInformation, ModeSelect, SendCueSheet, Write, SynchronizeCache, CloseTrack, CloseSession}
+use Rattle.recorder.specs.declared.script.Following.{Following}
+use Rattle.recorder.specs.declared.script.Following.the-variants.{Next as Then, Nothing}
+use Rattle.recorder.specs.declared.answers.Command.{Command}
+use Rattle.recorder.specs.declared.answers.Cdb.{Cdb}
+use Rattle.recorder.specs.declared.replies.Reading.{Reading}
+use Rattle.recorder.specs.declared.rules.Seen.{Seen}
+use Rattle.recorder.specs.declared.job.Phase.{Phase}
+use Rattle.recorder.specs.declared.job.Phase.the-variants.{Going, Finished, Stopped}
 use Rattle.recorder.specs.declared.job.Move.{Move}
 use Rattle.recorder.specs.declared.job.Move.the-variants as M
 use Rattle.recorder.specs.declared.job.Progress.{Progress}
 use Rattle.recorder.specs.declared.job.Recorder.{Recorder}
 use Rattle.recorder.specs.declared.job.Step.{Step}
-use Rattle.recorder.specs.Replies.{failureOf, readProfile, readStatus, readInformation}
-use Rattle.recorder.specs.Answers.{Why, because, drive-failed, Ruling, issue, done, stop, said, bytesOf}
-use Rattle.recorder.specs.Script.{portion}
-use Rattle.recorder.specs.Rules.{lengthOf, lastFrame, trackFault}
+use Rattle.recorder.specs.Replies.{reading, UnsignedIn, ForTrack}
+use Rattle.recorder.specs.Answers.{Why, because, drive-failed, Ruling, issue, done, stop, said, bytesOf, cdbOf}
+use Rattle.recorder.specs.Script.{write, portion, trackIn, ofWrite, stepwise}
+use Rattle.recorder.specs.Exchanges.{nothingSeen, see}
+use Rattle.recorder.specs.Rules.{lastFrame, Judgement, again, onward, refused, judge}
+
+-- ---- which operation comes after another, of n tracks; the piece at hand, the pause or a track, has l blocks, the next one k
+
+-- the piece t has ended: 35h, or in SAO the next track
+unfoldable pub pieceEnded : Method → ℕ → ℕ → ℕ → Op
+pieceEnded Tao n k t = SynchronizeCache (record { 0 = t })
+pieceEnded Sao n k t = if (ltb t n) (write (suc t) 0 (portion k 0)) (SynchronizeCache (record { 0 = t }))
+
+-- from the block f of the piece t on
+unfoldable pub beforeBlock : Method → ℕ → ℕ → ℕ → ℕ → ℕ → Op
+beforeBlock m n l k t f = if (ltb f l) (write t f (portion l f)) (pieceEnded m n k t)
+
+-- the block that is next after an operation: that after a WRITE, else the first
+abbrev pub blockAfter : Op → ℕ
+blockAfter x = ofWrite 0 (λ t f k. f + k) x
+
+-- after 55h: the track's WRITEs, or 5Dh
+abbrev pub afterPage : Method → Op → Op
+afterPage Tao x = x
+afterPage Sao x = SendCueSheet
+
+-- after 35h: 5Bh function 1; in SAO it was the last
+abbrev pub afterSynchronize : Method → ℕ → Following
+afterSynchronize Tao t = Then (CloseTrack (record { 0 = t }))
+afterSynchronize Sao t = Nothing
+
+-- after 5Bh function 1: the next track, or 5Bh function 2
+unfoldable pub afterCloseTrack : ℕ → ℕ → Op
+afterCloseTrack n t = if (ltb t n) (ReadTrackInformation (record { 0 = suc t })) CloseSession
+
+abbrev pub opAfter : Method → ℕ → ℕ → ℕ → Op → Following
+opAfter m n l k GetConfiguration = Then ReadDiscInformation
+opAfter m n l k ReadDiscInformation = Then (ReadTrackInformation (record { 0 = 1 }))
+opAfter m n l k (ReadTrackInformation t) = Then (ModeSelect t)
+opAfter m n l k (ModeSelect t) = Then (afterPage m (beforeBlock m n l k (t .0) 0))
+opAfter m n l k SendCueSheet = Then (beforeBlock m n l k 0 0)
+opAfter m n l k (Write t f c) = Then (beforeBlock m n l k (t .0) (f .0 + c .0))
+opAfter m n l k (SynchronizeCache t) = afterSynchronize m (t .0)
+opAfter m n l k (CloseTrack t) = Then (afterCloseTrack n (t .0))
+opAfter m n l k CloseSession = Nothing
+
+-- the blocks of a piece of the job: of the pause, or of the track t
+abbrev pub pieceOf : Order → ℕ → ℕ
+pieceOf o zero = leadFrames
+pieceOf o (suc t) = getD (o .tracks) t noTrack .length .0
+
+-- in an order
+abbrev pub afterIn : Order → Op → Following
+afterIn o x = opAfter (o .method) (o .count) (pieceOf o (trackIn x)) (pieceOf o (suc (trackIn x))) x
+
+-- ---- what a reply leads to
+
+-- the command whose reply the job waits for
+abbrev pub commandOf : Progress → Command
+commandOf s = record { op = s .place; address = addressAt (s .seen .at) }
+
+-- the next command, the end as done, or a stop
+pub data Turn : Type 0 where
+  goes : Progress → Turn
+  finish : Turn
+  halt : Why → Turn
+
+-- what each case of a move says
+abbrev pub turnIn : Move → Turn
+turnIn (M.Onward s) = goes s
+turnIn M.Finish = finish
+turnIn (M.Halt r) = halt (because (numberOf r))
+turnIn (M.Fail x) = halt (drive-failed x)
+
+abbrev pub advanced : Following → Seen → Turn
+advanced (Then x) v = goes (record { place = x; seen = v })
+advanced Nothing v = finish
+
+-- "Busy: the same command again. Failed otherwise: the end ..  Good: if numbers judged there apply, the end with the one that comes
+-- first; else the next command by the rules above, and after the last one the end as done."
+abbrev pub turnBy : Judgement → Order → Progress → Reading → Turn
+turnBy again o s r = goes s
+turnBy (onward xs) o s r = advanced (afterIn o (s .place)) (see (o .method) (s .place) r (s .seen))
+turnBy (refused w) o s r = halt w
+
+abbrev pub turnOf : Order → Progress → Reading → Turn
+turnOf o s r = turnBy (judge o (s .seen) (s .place) r) o s r
+
+-- ---- the step
 
 -- what comes out of a call, and what a step says of it
 pub record Next : Type 0 where
   pub state : Recorder
   pub answer : Ruling
   pub count : ℕ
-  pub bytes : List ℕ
+  pub cdb : Cdb
 
 abbrev pub nextIn : Step → Next
-nextIn s = record { state = s .state; answer = said (s .answer); count = s .count; bytes = s .bytes }
-
--- ---- the command that the job waits for the reply to
-
--- the blocks of a piece of the job: the pause, or a track
-abbrev pub pieceOf : Order → ℕ → ℕ
-pieceOf o zero = leadFrames
-pieceOf o (suc t) = lengthOf o (suc t)
-
--- what is at hand
-abbrev pub lengthAt : Order → Progress → ℕ
-lengthAt o s = pieceOf o (s .track .0)
-
--- the WRITE of a piece of l blocks from its block f on
-abbrev pub writeAt : Progress → ℕ → ℕ → Command
-writeAt s l f = Write (s .track) (record { 0 = f }) (record { 0 = portion l f }) (addressAt (s .at))
-
-abbrev pub pendingAt : Place → Order → Progress → Command
-pendingAt AtConfiguration o s = GetConfiguration
-pendingAt AtDiscInformation o s = ReadDiscInformation
-pendingAt AtTrackInformation o s = ReadTrackInformation
-pendingAt AtPage o s = ModeSelect (s .track)
-pendingAt AtCueSheet o s = SendCueSheet
-pendingAt (AtWrite f) o s = writeAt s (lengthAt o s) (f .0)
-pendingAt AtSynchronize o s = SynchronizeCache
-pendingAt AtCloseTrack o s = CloseTrack
-pendingAt AtCloseSession o s = CloseSession
-pendingAt Finished o s = GetConfiguration
-pendingAt Stopped o s = GetConfiguration
-
-abbrev pub pendingOf : Order → Progress → Command
-pendingOf o s = pendingAt (s .place) o s
-
--- ---- one step further
-
--- at a place, with a track and at a frame
-abbrev pub movedTo : Progress → Place → ℕ → ℕ → Progress
-movedTo s p t a = record { place = p; track = record { 0 = t }; at = record { 0 = a }; profile = s .profile; status = s .status }
-
--- at a place, all else as it was
-abbrev pub placedAt : Progress → Place → Progress
-placedAt s p = record { place = p; track = s .track; at = s .at; profile = s .profile; status = s .status }
-
-abbrev pub withProfile : Progress → ℕ → Progress
-withProfile s p = record { place = AtDiscInformation; track = s .track; at = s .at; profile = p; status = s .status }
-
-abbrev pub withStatus : Progress → ℕ → Progress
-withStatus s q = record { place = AtTrackInformation; track = s .track; at = s .at; profile = s .profile; status = q }
-
--- one track more: in TAO it starts at the address of its 52h
-abbrev pub startAt : Method → Progress → TrackInformation → ℕ
-startAt Tao s i = framesTo (i .address) .0
-startAt Sao s i = s .at .0
-
-abbrev pub begunAt : Method → Progress → TrackInformation → Progress
-begunAt m s i = movedTo s AtPage (suc (s .track .0)) (startAt m s i)
-
--- a piece has ended at the frame a; n tracks are ordered, and in SAO the next one begins there
-unfoldable pub pieceEnded : Method → ℕ → Progress → ℕ → Progress
-pieceEnded Tao n s a = movedTo s AtSynchronize (s .track .0) a
-pieceEnded Sao n s a =
-    if (ltb (s .track .0) n)
-    (movedTo s (AtWrite (record { 0 = 0 })) (suc (s .track .0)) a)
-    (movedTo s AtSynchronize (s .track .0) a)
-
--- before the block f of a piece of l blocks, at the frame a, or at the piece's end
-unfoldable pub beforeBlock : Method → ℕ → ℕ → Progress → ℕ → ℕ → Progress
-beforeBlock m n l s f a = if (ltb f l) (movedTo s (AtWrite (record { 0 = f })) (s .track .0) a) (pieceEnded m n s a)
-
--- after a WRITE from the block f on
-abbrev pub afterWrite : Method → ℕ → ℕ → Progress → ℕ → Progress
-afterWrite m n l s f = beforeBlock m n l s (f + portion l f) (s .at .0 + portion l f)
-
--- after 55h
-abbrev pub afterPage : Method → ℕ → ℕ → Progress → Progress
-afterPage Tao n l s = beforeBlock Tao n l s 0 (s .at .0)
-afterPage Sao n l s = placedAt s AtCueSheet
-
--- after 5Dh: the pause
-abbrev pub afterCueSheet : Progress → Progress
-afterCueSheet s = movedTo s (AtWrite (record { 0 = 0 })) 0 (s .at .0)
-
--- after 5Bh function 1: the next track, or 5Bh function 2
-unfoldable pub afterCloseTrack : ℕ → Progress → Progress
-afterCloseTrack n s = placedAt s (if (ltb (s .track .0) n) AtTrackInformation AtCloseSession)
-
--- ---- what a reply leads to
-
--- the command of a place, the end as done, or a stop
-pub data Turn : Type 0 where
-  onward : Progress → Turn
-  finish : Turn
-  halt : Why → Turn
-
--- what each case of a move says
-abbrev pub turnIn : Move → Turn
-turnIn (M.Onward s) = onward s
-turnIn M.Finish = finish
-turnIn (M.Halt r) = halt (because (numberOf r))
-turnIn (M.Fail x) = halt (drive-failed x)
-
--- by the number of a fault, 0 for none
-abbrev pub unlessFault : ℕ → Progress → Turn
-unlessFault zero s = onward s
-unlessFault (suc n) s = halt (because (suc n))
-
-abbrev pub afterProfile : Progress → Outcome ℕ → Turn
-afterProfile s (pass p) = onward (withProfile s p)
-afterProfile s (refuse n) = halt (because n)
-
-abbrev pub afterStatus : Progress → Outcome ℕ → Turn
-afterStatus s (pass q) = onward (withStatus s q)
-afterStatus s (refuse n) = halt (because n)
-
-abbrev pub afterInformation : Order → Progress → Outcome TrackInformation → Turn
-afterInformation o s (pass i) = unlessFault (trackFault o (s .track .0) (s .profile) (s .status) (s .at .0) i) (begunAt (o .method) s i)
-afterInformation o s (refuse n) = halt (because n)
-
-abbrev pub afterSynchronize : Method → Progress → Turn
-afterSynchronize Tao s = onward (placedAt s AtCloseTrack)
-afterSynchronize Sao s = finish
-
--- "Good: if numbers judged there apply, the end with the one that comes first; else the next command by the rules above, and after
--- the last one the end as done."
-unfoldable pub goodAt : Place → Order → Progress → List ℕ → Turn
-goodAt AtConfiguration o s d = afterProfile s (readProfile d)
-goodAt AtDiscInformation o s d = afterStatus s (readStatus d)
-goodAt AtTrackInformation o s d = afterInformation o s (readInformation d)
-goodAt AtPage o s d = onward (afterPage (o .method) (o .count) (lengthAt o s) s)
-goodAt AtCueSheet o s d = onward (afterCueSheet s)
-goodAt (AtWrite f) o s d = onward (afterWrite (o .method) (o .count) (lengthAt o s) s (f .0))
-goodAt AtSynchronize o s d = afterSynchronize (o .method) s
-goodAt AtCloseTrack o s d = onward (afterCloseTrack (o .count) s)
-goodAt AtCloseSession o s d = finish
-goodAt Finished o s d = halt (because 13)
-goodAt Stopped o s d = halt (because 13)
-
--- "Busy: the same command again. Failed otherwise: the end, 12 with its triple."
-abbrev pub afterFailure : Progress → Failure → Turn
-afterFailure s Busy = onward s
-afterFailure s (Failed x) = halt (drive-failed x)
-
--- ---- the step
+nextIn s = record { state = s .state; answer = said (s .answer); count = s .count; cdb = s .cdb }
 
 -- "Each command given, repeats too, adds 1 to the command count, up to 2^64 - 1"
 abbrev pub mostCommands : ℕ
 mostCommands = 2 ^ 64 - 1
 
-abbrev pub counted : ℕ → ℕ
-counted n = min (n + 1) mostCommands
+abbrev pub oneMore : ℕ → ℕ
+oneMore n = min (n + 1) mostCommands
 
-abbrev pub stateOf : Order → Progress → ℕ → Recorder
-stateOf o s n = record { order = o; progress = s; count = n }
+abbrev pub stateOf : Order → Progress → Phase → ℕ → Recorder
+stateOf o s p n = record { order = o; progress = s; phase = p; count = n }
 
 abbrev pub nextOf : Recorder → Ruling → Next
-nextOf r a = record { state = r; answer = a; count = r .count; bytes = bytesOf (r .order) a }
+nextOf r a = record { state = r; answer = a; count = r .count; cdb = cdbOf (bytesOf (r .order .count) a) }
 
 -- a command is given, the job is done, or it stops
 abbrev pub stepOf : Order → Progress → ℕ → Turn → Next
-stepOf o s n (onward t) = nextOf (stateOf o t (counted n)) (issue (pendingOf o t))
-stepOf o s n finish = nextOf (stateOf o (placedAt s Finished) n) done
-stepOf o s n (halt w) = nextOf (stateOf o (placedAt s Stopped) n) (stop w)
+stepOf o s n (goes t) = nextOf (stateOf o t Going (oneMore n)) (issue (commandOf t))
+stepOf o s n finish = nextOf (stateOf o s Finished n) done
+stepOf o s n (halt w) = nextOf (stateOf o s Stopped n) (stop w)
 
 -- a refusal that leaves the state as it was
 abbrev pub unchanged : Recorder → ℕ → Next
 unchanged r n = nextOf r (stop (because n))
 
-abbrev pub endedAt : Place → Bool
-endedAt AtConfiguration = false
-endedAt AtDiscInformation = false
-endedAt AtTrackInformation = false
-endedAt AtPage = false
-endedAt AtCueSheet = false
-endedAt (AtWrite f) = false
-endedAt AtSynchronize = false
-endedAt AtCloseTrack = false
-endedAt AtCloseSession = false
+-- ---- "the recorder's own test"
+
+-- t is a track of n
+unfoldable pub inOrder : ℕ → ℕ → Bool
+inOrder n t = leb 1 t && leb t n
+
+-- l blocks from a frame on end at most at the last frame
+unfoldable pub inTime : ℕ → FrameCount → Bool
+inTime l at = leb (at .0 + l) lastFrame
+
+-- t is a piece that is written: a track; or, in SAO, the pause too, and the next track has a block
+unfoldable pub inPiece : Method → ℕ → ℕ → ℕ → Bool
+inPiece Tao n k t = inOrder n t
+inPiece Sao n k t = if (ltb t n) (ltb 0 k) (eqb t n)
+
+-- c blocks from the block f on are a WRITE of a piece of l blocks, which ends in time
+unfoldable pub isWrite : ℕ → ℕ → ℕ → FrameCount → Bool
+isWrite l f c at = ltb f l && (eqb c (portion l f) && inTime (l - f) at)
+
+-- what an operation needs: its method, its track, and the address where the next block goes
+abbrev pub standsAt : Method → ℕ → ℕ → ℕ → FrameCount → Op → Bool
+standsAt m n l k at GetConfiguration = true
+standsAt m n l k at ReadDiscInformation = true
+standsAt m n l k at (ReadTrackInformation t) = inOrder n (t .0)
+standsAt m n l k at (ModeSelect t) = inOrder n (t .0) && inTime l at
+standsAt m n l k at SendCueSheet = not (stepwise m) && inTime l at
+standsAt m n l k at (Write t f c) = inPiece m n k (t .0) && isWrite l (f .0) (c .0) at
+standsAt m n l k at (SynchronizeCache t) = inOrder n (t .0)
+standsAt m n l k at (CloseTrack t) = stepwise m && inOrder n (t .0)
+standsAt m n l k at CloseSession = stepwise m
+
+-- in an order of 1 to 99 tracks
+unfoldable pub standsIn : Method → ℕ → ℕ → ℕ → FrameCount → Op → Bool
+standsIn m n l k at x = leb 1 n && (leb n mostTracks && standsAt m n l k at x)
+
+abbrev pub stands : Order → Progress → Bool
+stands o s = standsIn (o .method) (o .count) (pieceOf o (trackIn (s .place))) (pieceOf o (suc (trackIn (s .place)))) (s .seen .at) (s .place)
+
+abbrev pub endedAt : Phase → Bool
+endedAt Going = false
 endedAt Finished = true
 endedAt Stopped = true
 
-abbrev pub endedOf : Recorder → Bool
-endedOf r = endedAt (r .progress .place)
-
--- ---- "the recorder's own test"
-
--- the tracks of an order are 1 to 99
-unfoldable pub someTracks : Order → Bool
-someTracks o = leb 1 (o .count) && leb (o .count) mostTracks
-
--- in TAO a track has begun; in SAO it may be the pause
-unfoldable pub inJob : Method → ℕ → ℕ → Bool
-inJob Tao n t = leb 1 t && leb t n
-inJob Sao n t = leb t n
-
--- the block f lies in its piece of l blocks, and the piece ends at most at the last frame
-unfoldable pub inPiece : ℕ → ℕ → ℕ → Bool
-inPiece l f a = ltb f l && leb (a + (l - f)) lastFrame
-
--- what a place needs beside the order: its method, a track still to begin, a track begun, or a block in its piece
-unfoldable pub standsAt : Place → Order → Progress → Bool
-standsAt AtConfiguration o s = true
-standsAt AtDiscInformation o s = true
-standsAt AtTrackInformation o s = ltb (s .track .0) (o .count)
-standsAt AtPage o s = inJob (o .method) (o .count) (s .track .0)
-standsAt AtCueSheet o s = isSao (o .method) && inJob (o .method) (o .count) (s .track .0)
-standsAt (AtWrite f) o s = inJob (o .method) (o .count) (s .track .0) && inPiece (lengthAt o s) (f .0) (s .at .0)
-standsAt AtSynchronize o s = inJob (o .method) (o .count) (s .track .0)
-standsAt AtCloseTrack o s = not (isSao (o .method)) && inJob (o .method) (o .count) (s .track .0)
-standsAt AtCloseSession o s = not (isSao (o .method))
-standsAt Finished o s = true
-standsAt Stopped o s = true
-
 -- an ended job passes, whatever it holds
 unfoldable pub validOf : Recorder → Bool
-validOf r = if (endedOf r) true (someTracks (r .order) && standsAt (r .progress .place) (r .order) (r .progress))
+validOf r = if (endedAt (r .phase)) true (stands (r .order) (r .progress))
 
 -- ---- taking an order, and giving a reply
 
 abbrev pub opening : Progress
-opening = record { place = AtConfiguration; track = record { 0 = 0 }; at = record { 0 = 0 }; profile = 0; status = 0 }
+opening = record { place = GetConfiguration; seen = nothingSeen }
 
 -- "An order that 1 to 3 refuse gives no command: the job ends at once with that number, and the command count is 0. For any other,
 -- 46h comes first and the command count is 1."
 abbrev pub takenAs : Outcome Order → Next
-takenAs (pass o) = stepOf o opening 0 (onward opening)
+takenAs (pass o) = stepOf o opening 0 (goes opening)
 takenAs (refuse n) = stepOf noOrder opening 0 (halt (because n))
 
 unfoldable pub takeOf : List ℕ → Next
 takeOf b = takenAs (readOrder b)
 
--- a reply to a job that goes on
-unfoldable pub turnOf : Recorder → Bool → List ℕ → Turn
-turnOf r good d =
-    if good
-    (goodAt (r .progress .place) (r .order) (r .progress) d)
-    (afterFailure (r .progress) (failureOf d))
-
--- "Then each reply is one step. To an ended job: 13, and nothing changes." First of all 3 for a state that fails the test.
+-- "Then each reply is one step. To an ended job: 13, and nothing changes." 3 for a state that fails the test, which an ended one passes.
 unfoldable pub giveOf : Recorder → Bool → List ℕ → Next
 giveOf r good d =
-    if (validOf r)
-    (if (endedOf r) (unchanged r 13) (stepOf (r .order) (r .progress) (r .count) (turnOf r good d)))
-    (unchanged r 3)
+    if (endedAt (r .phase))
+    (unchanged r 13)
+    (if (stands (r .order) (r .progress))
+    (stepOf (r .order) (r .progress) (r .count) (turnOf (r .order) (r .progress) (reading (r .progress .place) (replyOf good d))))
+    (unchanged r 3))
+
+-- what the inner step asks for: a state that passes the test, and a reading of a reply to its command
+pub record Ready (o : Order) (s : Progress) (length next : ℕ) (r : Reading) : Type 0 where
+  pub length-is : length ≡ pieceOf o (trackIn (s .place))
+  pub next-is : next ≡ pieceOf o (suc (trackIn (s .place)))
+  pub passes : stands o s ≡ true
+  pub unsigned : UnsignedIn r
+  pub for-track : ForTrack (trackIn (s .place)) r

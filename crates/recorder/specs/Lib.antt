@@ -1,6 +1,6 @@
-pub mod Replies
-pub mod Answers
 pub mod Script
+pub mod Answers
+pub mod Replies
 pub mod Exchanges
 pub mod Rules
 pub mod Job

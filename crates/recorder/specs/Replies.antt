@@ -1,22 +1,20 @@
 -- What the bytes of the replies say: "Reading the replies".
-use Prim.Native.Nat.{ℕ, _/_, _%_}
+use mathlib.Core.Path.{_≡_}
+use Prim.Native.Nat.{ℕ, _/_, _%_, _≤_, _<_, _^_}
 use mathlib.Core.List.{List}
 use mathlib.Core.Bool.{Bool, _&&_, _||_}
 use lib.ListN.{length, getD, drop}
 use lib.Dec.{leb, eqb}
 use lib.IntN.{pos}
 use Rattle.mmc.specs.Bytes.{if, be16, be32}
-use Rattle.mmc.specs.Refusals.{Outcome, pass, refuse, numberOf}
+use Rattle.mmc.specs.ReplyBlock.{Reply}
+use Rattle.mmc.specs.declared.units.BlockAddress.{BlockAddress}
+use Rattle.recorder.specs.declared.script.Op.{Op}
+use Rattle.recorder.specs.declared.script.Op.the-variants.{GetConfiguration, ReadDiscInformation, ReadTrackInformation, ModeSelect, SendCueSheet, Write, SynchronizeCache, CloseTrack, CloseSession}
 use Rattle.recorder.specs.declared.replies.Sense.{Sense}
-use Rattle.recorder.specs.declared.replies.Failure.{Failure}
-use Rattle.recorder.specs.declared.replies.Failure.the-variants.{Busy, Failed}
-use Rattle.recorder.specs.declared.replies.ProfileReply.{ProfileReply}
-use Rattle.recorder.specs.declared.replies.ProfileReply.the-variants as P
-use Rattle.recorder.specs.declared.replies.DiscReply.{DiscReply}
-use Rattle.recorder.specs.declared.replies.DiscReply.the-variants as D
 use Rattle.recorder.specs.declared.replies.TrackInformation.{TrackInformation}
-use Rattle.recorder.specs.declared.replies.TrackReply.{TrackReply}
-use Rattle.recorder.specs.declared.replies.TrackReply.the-variants as T
+use Rattle.recorder.specs.declared.replies.Reading.{Reading}
+use Rattle.recorder.specs.declared.replies.Reading.the-variants.{Busy, Failed, Malformed, Profile, Status, Information, Unread}
 
 abbrev pub byte : List ℕ → ℕ → ℕ
 byte d i = getD d i 0
@@ -44,10 +42,10 @@ notReady s = eqb (s .key) 0x02 && (eqb (s .asc) 0x04 && eqb (s .ascq) 0x08)
 unfoldable pub isBusy : List ℕ → Bool
 isBusy d = eqb (responseCode d) 0x70 && notReady (senseOf d)
 
-unfoldable pub failureOf : List ℕ → Failure
-failureOf d = if (isBusy d) Busy (Failed (senseOf d))
+unfoldable pub readFailed : List ℕ → Reading
+readFailed d = if (isBusy d) Busy (Failed (senseOf d))
 
--- ---- the good replies to 46h, 51h and 52h: 4 where "too short or of another type"
+-- ---- the good replies to 46h, 51h and 52h: malformed, which is 4, where "too short or of another type"
 
 -- 46h: "at least 8 bytes, length field (bytes 0 to 3) at least 4; profile in bytes 6 and 7"
 unfoldable pub wholeProfile : List ℕ → Bool
@@ -56,8 +54,8 @@ wholeProfile d = leb 8 (length d) && leb 4 (be32 d)
 abbrev pub profileOf : List ℕ → ℕ
 profileOf d = be16 (drop 6 d)
 
-unfoldable pub readProfile : List ℕ → Outcome ℕ
-readProfile d = if (wholeProfile d) (pass (profileOf d)) (refuse 4)
+unfoldable pub readProfile : List ℕ → Reading
+readProfile d = if (wholeProfile d) (Profile (profileOf d)) Malformed
 
 -- 51h: "at least 34 bytes, length field (0, 1) at least 32; in byte 2, bits 7 to 5 are 0 and bits 1, 0 are the status"
 unfoldable pub wholeDisc : List ℕ → Bool
@@ -66,8 +64,8 @@ wholeDisc d = leb 34 (length d) && (leb 32 (be16 d) && eqb (byte d 2 / 32) 0)
 abbrev pub statusOf : List ℕ → ℕ
 statusOf d = byte d 2 % 4
 
-unfoldable pub readStatus : List ℕ → Outcome ℕ
-readStatus d = if (wholeDisc d) (pass (statusOf d)) (refuse 4)
+unfoldable pub readStatus : List ℕ → Reading
+readStatus d = if (wholeDisc d) (Status (statusOf d)) Malformed
 
 -- 52h: "at least 28 bytes, length field (0, 1) at least 26; Damage is bit 5 of byte 5, NWA_V bit 0 of byte 7, Next Writable
 -- Address bytes 12 to 15, Free Blocks 16 to 19, both unsigned"
@@ -83,19 +81,45 @@ informationOf d =
       free = record { 0 = be32 (drop 16 d) };
     }
 
-unfoldable pub readInformation : List ℕ → Outcome TrackInformation
-readInformation d = if (wholeInformation d) (pass (informationOf d)) (refuse 4)
+unfoldable pub readInformation : List ℕ → Reading
+readInformation d = if (wholeInformation d) (Information (informationOf d)) Malformed
 
--- ---- what the readers' answers say: the value, or the number
+-- ---- a reply to an operation
 
-abbrev pub profileIn : ProfileReply → Outcome ℕ
-profileIn (P.Profile p) = pass p
-profileIn (P.Refused r) = refuse (numberOf r)
+-- "A data-less command's reply data is ignored."
+abbrev pub readGood : Op → List ℕ → Reading
+readGood GetConfiguration d = readProfile d
+readGood ReadDiscInformation d = readStatus d
+readGood (ReadTrackInformation t) d = readInformation d
+readGood (ModeSelect t) d = Unread
+readGood SendCueSheet d = Unread
+readGood (Write t f k) d = Unread
+readGood (SynchronizeCache t) d = Unread
+readGood (CloseTrack t) d = Unread
+readGood CloseSession d = Unread
 
-abbrev pub statusIn : DiscReply → Outcome ℕ
-statusIn (D.Status q) = pass q
-statusIn (D.Refused r) = refuse (numberOf r)
+abbrev pub reading : Op → Reply → Reading
+reading x y = if (y .good) (readGood x (y .bytes)) (readFailed (y .bytes))
 
-abbrev pub informationIn : TrackReply → Outcome TrackInformation
-informationIn (T.Information i) = pass i
-informationIn (T.Refused r) = refuse (numberOf r)
+-- ---- what the inner routines ask for: an address of four bytes, of a reply for a track
+
+abbrev pub Unsigned : BlockAddress → Type 0
+Unsigned a = (n : ℕ) × ((a .0 ≡ pos n) × (n < 2 ^ 32))
+
+abbrev pub UnsignedIn : Reading → Type 0
+UnsignedIn Busy = Unit {0}
+UnsignedIn (Failed s) = Unit {0}
+UnsignedIn Malformed = Unit {0}
+UnsignedIn (Profile p) = Unit {0}
+UnsignedIn (Status q) = Unit {0}
+UnsignedIn (Information i) = Unsigned (i .address)
+UnsignedIn Unread = Unit {0}
+
+abbrev pub ForTrack : ℕ → Reading → Type 0
+ForTrack t Busy = Unit {0}
+ForTrack t (Failed s) = Unit {0}
+ForTrack t Malformed = Unit {0}
+ForTrack t (Profile p) = Unit {0}
+ForTrack t (Status q) = Unit {0}
+ForTrack t (Information i) = 1 ≤ t
+ForTrack t Unread = Unit {0}

@@ -1,62 +1,58 @@
--- The recording rules, over the order and the exchanges alone.
+-- The recording rules, over the order and the exchanges alone: what is left of the plan, moved by the judgement of each reply.
 use mathlib.Core.Path.{_≡_}
 use mathlib.Core.Bool.{Bool, false, not, _&&_, _||_}
 use mathlib.Core.List.{List, [], _∷_, _++_}
-use Prim.Native.Nat.{ℕ, zero, suc, _+_}
-use lib.ListN.{length, getD, drop}
+use Prim.Native.Nat.{ℕ, _+_, _-_}
+use lib.ListN.{drop}
 use lib.Dec.{ltb, leb, eqb}
 use Rattle.mmc.specs.Bytes.{if}
-use Rattle.mmc.specs.Refusals.{Outcome, pass, refuse}
-use Rattle.mmc.specs.Order.{noTrack, tracksIn, orderKind, allKind, allLong, blocksOf}
+use Rattle.mmc.specs.Refusals.{Outcome, pass, refuse, numberOf}
+use Rattle.mmc.specs.Order.{tracksIn, orderKind, allKind, allLong, blocksOf}
 use Rattle.mmc.specs.Times.{lastAddress, leadFrames, framesTo, addressAt}
 use Rattle.mmc.specs.ReplyBlock.{Reply}
+use Rattle.mmc.specs.declared.units.FrameCount.{FrameCount}
 use Rattle.mmc.specs.declared.order.Order.{Order}
 use Rattle.mmc.specs.declared.order.Method.{Method}
 use Rattle.mmc.specs.declared.order.Method.the-variants.{Tao, Sao}
-use Rattle.recorder.specs.declared.replies.Failure.{Failure}
-use Rattle.recorder.specs.declared.replies.Failure.the-variants.{Busy, Failed}
+use Rattle.recorder.specs.declared.script.Op.{Op}
+use Rattle.recorder.specs.declared.answers.Command.{Command}
 use Rattle.recorder.specs.declared.replies.TrackInformation.{TrackInformation}
-use Rattle.recorder.specs.declared.job.Command.{Command}
-use Rattle.recorder.specs.declared.job.Command.the-variants.{GetConfiguration, ReadDiscInformation, ReadTrackInformation, ModeSelect, SendCueSheet, Write, SynchronizeCache, CloseTrack, CloseSession}
-use Rattle.recorder.specs.Replies.{failureOf, readProfile, readStatus, readInformation}
+use Rattle.recorder.specs.declared.replies.Reading.{Reading}
+use Rattle.recorder.specs.declared.replies.Reading.the-variants.{Busy, Failed, Malformed, Profile, Status, Information, Unread}
+use Rattle.recorder.specs.declared.rules.Seen.{Seen}
+use Rattle.recorder.specs.declared.rules.Verdict.{Verdict}
+use Rattle.recorder.specs.declared.rules.Verdict.the-variants as D
 use Rattle.recorder.specs.Answers.{Why, because, drive-failed, Ruling, issue, done, stop}
-use Rattle.recorder.specs.Script.{Op, configuration, disc-information, track-information, page, cue-sheet, write, synchronize, close-track, close-session, Block, script, ordered, closings}
-use Rattle.recorder.specs.Exchanges.{Exchange, opIn, latest, profiles, statuses, starts, ends, recorded, closed}
+use Rattle.recorder.specs.Script.{trackIn, stepwise, Block, script, ordered, closings}
+use Rattle.recorder.specs.Exchanges.{Exchange, read, recorded, closed, seen}
 
--- ---- which operation is due: the entry of the script at the number of exchanges answered good
+-- ---- judgements
 
-abbrev pub goods : List Exchange → ℕ
-goods [] = 0
-goods (e ∷ es) = if (e .reply .good) (suc (goods es)) (goods es)
+-- the same command again; the operation is answered, and others come before what is left; or a refusal
+pub data Judgement : Type 0 where
+  again : Judgement
+  onward : List Op → Judgement
+  refused : Why → Judgement
 
-pub data Due : Type 0 where
-  op : Op → Due
-  no-more : Due
+-- a number of the table, and whether it applies
+pub record Test : Type 0 where
+  pub applies : Bool
+  pub number : ℕ
 
-abbrev pub entry : List Op → ℕ → Due
-entry [] k = no-more
-entry (x ∷ xs) zero = op x
-entry (x ∷ xs) (suc k) = entry xs k
+abbrev pub test : Bool → ℕ → Test
+test b n = record { applies = b; number = n }
 
--- ---- where a WRITE starts, in frames
+-- "The lowest applying number is given": the first of these; without one the operation is answered
+abbrev pub tested : List Test → Judgement
+tested [] = onward []
+tested (t ∷ ts) = if (t .applies) (refused (because (t .number))) (tested ts)
 
--- "In TAO a track starts at the address of its latest 52h; elsewhere each WRITE starts where the last good one ended", the pause
--- "from -150", which is frame 0
-abbrev pub cursor : Method → List Exchange → ℕ → ℕ
-cursor Tao es f = latest (starts es) + f
-cursor Sao es f = latest (ends es)
-
--- the command of an operation
-abbrev pub command : Order → List Exchange → Op → Command
-command o es configuration = GetConfiguration
-command o es disc-information = ReadDiscInformation
-command o es track-information = ReadTrackInformation
-command o es (page t) = ModeSelect (record { 0 = t })
-command o es cue-sheet = SendCueSheet
-command o es (write t f k) = Write (record { 0 = t }) (record { 0 = f }) (record { 0 = k }) (addressAt (record { 0 = cursor (o .method) es f }))
-command o es synchronize = SynchronizeCache
-command o es close-track = CloseTrack
-command o es close-session = CloseSession
+-- what each case of a verdict says
+abbrev pub judgementIn : Verdict → Judgement
+judgementIn D.Again = again
+judgementIn D.Onward = onward []
+judgementIn (D.Refused r) = refused (because (numberOf r))
+judgementIn (D.Failed s) = refused (drive-failed s)
 
 -- ---- the numbers 5 to 10, of what was read
 
@@ -65,14 +61,16 @@ unfoldable pub otherProfile : ℕ → Bool
 otherProfile p = not (eqb p 0x0009) && not (eqb p 0x000A)
 
 -- 6: "disc status unsuitable: TAO needs 0 or 1, SAO needs 0"
-unfoldable pub unsuitable : Method → ℕ → Bool
-unsuitable Tao status = ltb 1 status
-unsuitable Sao status = ltb 0 status
+abbrev pub lastStatus : Method → ℕ
+lastStatus Tao = 1
+lastStatus Sao = 0
 
--- 7: "Damage set; or, in TAO, NWA_V clear or an address below the end of the job's previous track"
-unfoldable pub unusable : Method → ℕ → TrackInformation → Bool
-unusable Tao end i = i .damaged || (not (i .addressed) || ltb (framesTo (i .address) .0) end)
-unusable Sao end i = i .damaged
+unfoldable pub unsuitable : Method → ℕ → Bool
+unsuitable m status = ltb (lastStatus m) status
+
+-- 7: "Damage set; or, in TAO, NWA_V clear or an address below the end of the job's previous track", where the next block would go
+unfoldable pub unusable : Method → FrameCount → TrackInformation → Bool
+unusable m end i = i .damaged || (stepwise m && (not (i .addressed) || ltb (framesTo (i .address) .0) (end .0)))
 
 -- 8: "SAO with mixed kinds or with keep appendable"
 unfoldable pub mixedOrKept : Method → Order → Bool
@@ -80,17 +78,16 @@ mixedOrKept Tao o = false
 mixedOrKept Sao o = o .keep || not (allKind (orderKind o) (tracksIn o))
 
 -- 9: "a track has fewer than 300 blocks"
-unfoldable pub shortTrack : Order → Bool
+abbrev pub shortTrack : Order → Bool
 shortTrack o = not (allLong (tracksIn o))
 
--- "the sum S of the lengths still to be recorded", after t tracks
+-- "the sum S of the lengths still to be recorded", from the track t on
 abbrev pub still : Order → ℕ → ℕ
-still o t = blocksOf (drop t (tracksIn o))
+still o t = blocksOf (drop (t - 1) (tracksIn o))
 
 -- "the lead-out address .. In TAO that address is Next Writable Address plus S; in SAO it is S", in frames
 abbrev pub leadOut : Method → ℕ → TrackInformation → ℕ
-leadOut Tao s i = framesTo (i .address) .0 + s
-leadOut Sao s i = s + leadFrames
+leadOut m s i = if (stepwise m) (framesTo (i .address) .0 + s) (s + leadFrames)
 
 -- the frames to 449,849
 abbrev pub lastFrame : ℕ
@@ -100,76 +97,58 @@ lastFrame = lastAddress + leadFrames
 unfoldable pub fits : Method → ℕ → TrackInformation → Bool
 fits m s i = leb s (i .free .0) && leb (leadOut m s i) lastFrame
 
--- the lowest of 5 to 10 that applies, "judged after the third"; 0: none
-unfoldable pub openingFault : Order → ℕ → ℕ → TrackInformation → ℕ
-openingFault o profile status i =
-    if (otherProfile profile) 5
-    (if (unsuitable (o .method) status) 6
-    (if (unusable (o .method) 0 i) 7
-    (if (mixedOrKept (o .method) o) 8
-    (if (shortTrack o) 9
-    (if (fits (o .method) (still o 0) i) 0 10)))))
+-- ---- a reply to 52h, before the track t
 
--- of a fresh 52h, "judged for 4, 7, 10", after t tracks of which the last ends at a frame
-unfoldable pub laterFault : Order → ℕ → ℕ → TrackInformation → ℕ
-laterFault o t end i =
-    if (unusable (o .method) end i) 7
-    (if (fits (o .method) (still o t) i) 0 10)
+-- "5 to 10 are judged after the third"
+abbrev pub openingTests : Order → ℕ → Seen → TrackInformation → List Test
+openingTests o t v i =
+    test (otherProfile (v .profile)) 5
+    ∷ test (unsuitable (o .method) (v .status)) 6
+    ∷ test (unusable (o .method) (v .at) i) 7
+    ∷ test (mixedOrKept (o .method) o) 8
+    ∷ test (shortTrack o) 9
+    ∷ test (not (fits (o .method) (still o t) i)) 10
+    ∷ []
 
-abbrev pub trackFault : Order → ℕ → ℕ → ℕ → ℕ → TrackInformation → ℕ
-trackFault o zero profile status end i = openingFault o profile status i
-trackFault o (suc t) profile status end i = laterFault o (suc t) end i
+-- a fresh 52h: "judged for 4, 7, 10"
+abbrev pub laterTests : Order → ℕ → Seen → TrackInformation → List Test
+laterTests o t v i = test (unusable (o .method) (v .at) i) 7 ∷ test (not (fits (o .method) (still o t) i)) 10 ∷ []
 
--- ---- the judgement of a reply, given the exchanges before it
+abbrev pub trackTests : Order → ℕ → Seen → TrackInformation → List Test
+trackTests o t v i = if (eqb t 1) (openingTests o t v i) (laterTests o t v i)
 
-pub data Judgement : Type 0 where
-  busy : Judgement
-  passes : Judgement
-  refused : Why → Judgement
+-- ---- any reply to an operation, by what was seen before
 
--- by the number of a fault, 0 for none
-abbrev pub verdict : ℕ → Judgement
-verdict zero = passes
-verdict (suc n) = refused (because (suc n))
+-- "Busy: the same command again. Failed otherwise: the end, 12 with its triple." 4 "stops at once"
+abbrev pub judge : Order → Seen → Op → Reading → Judgement
+judge o v x Busy = again
+judge o v x (Failed s) = refused (drive-failed s)
+judge o v x Malformed = refused (because 4)
+judge o v x (Profile p) = onward []
+judge o v x (Status q) = onward []
+judge o v x (Information i) = tested (trackTests o (trackIn x) v i)
+judge o v x Unread = onward []
 
--- the length of the t-th track; there is none before the first
-abbrev pub lengthOf : Order → ℕ → ℕ
-lengthOf o zero = 0
-lengthOf o (suc t) = getD (o .tracks) t noTrack .length .0
+-- an exchange, given those before it
+abbrev pub judged : Order → List Exchange → Exchange → Judgement
+judged o es e = judge o (seen (o .method) es) (e .command .op) (read e)
 
--- "the end of the job's previous track"
-abbrev pub endOf : Order → List Exchange → ℕ
-endOf o es = latest (starts es) + lengthOf o (length (starts es))
+-- ---- what is left of the plan
 
--- 4 alone
-abbrev pub formed : {A : Type 0} → Outcome A → Judgement
-formed (pass a) = passes
-formed (refuse n) = refused (because n)
+-- all but the head
+abbrev pub rest : List Op → List Op
+rest [] = []
+rest (x ∷ l) = l
 
--- a reply to 52h: 4, then what was read
-abbrev pub judgeTrack : Order → ℕ → ℕ → ℕ → ℕ → Outcome TrackInformation → Judgement
-judgeTrack o t profile status end (pass i) = verdict (trackFault o t profile status end i)
-judgeTrack o t profile status end (refuse n) = refused (because n)
+abbrev pub move : Judgement → List Op → List Op
+move again l = l
+move (onward xs) l = xs ++ rest l
+move (refused w) l = l
 
--- a good reply; "A data-less command's reply data is ignored"
-abbrev pub judgeGood : Order → List Exchange → Op → List ℕ → Judgement
-judgeGood o es configuration d = formed (readProfile d)
-judgeGood o es disc-information d = formed (readStatus d)
-judgeGood o es track-information d = judgeTrack o (length (starts es)) (latest (profiles es)) (latest (statuses es)) (endOf o es) (readInformation d)
-judgeGood o es (page t) d = passes
-judgeGood o es cue-sheet d = passes
-judgeGood o es (write t f k) d = passes
-judgeGood o es synchronize d = passes
-judgeGood o es close-track d = passes
-judgeGood o es close-session d = passes
-
--- a failed reply: busy, or 12 with its triple
-abbrev pub judgeFailed : Failure → Judgement
-judgeFailed Busy = busy
-judgeFailed (Failed s) = refused (drive-failed s)
-
-abbrev pub judge : Order → List Exchange → Exchange → Judgement
-judge o es e = if (e .reply .good) (judgeGood o es (opIn (e .command)) (e .reply .bytes)) (judgeFailed (failureOf (e .reply .bytes)))
+-- the script, moved by each judgement; its head is the operation due
+abbrev pub left : Order → List Exchange → List Op
+left o [] = script o
+left o (e ∷ es) = move (judged o es e) (left o es)
 
 -- ---- the first refusal
 
@@ -182,42 +161,45 @@ orElse none y = y
 orElse (found w) y = found w
 
 abbrev pub refusedBy : Judgement → Found
-refusedBy busy = none
-refusedBy passes = none
+refusedBy again = none
+refusedBy (onward xs) = none
 refusedBy (refused w) = found w
 
--- the first refused of some exchanges, given those before them
-abbrev pub firstRefused : Order → List Exchange → List Exchange → Found
-firstRefused o before [] = none
-firstRefused o before (e ∷ es) = orElse (refusedBy (judge o before e)) (firstRefused o (before ++ (e ∷ [])) es)
+abbrev pub firstRefused : Order → List Exchange → Found
+firstRefused o [] = none
+firstRefused o (e ∷ es) = orElse (firstRefused o es) (refusedBy (judged o es e))
 
 -- of an order block as it was read: 1 to 3, or the first refused reply
 abbrev pub refusal : Outcome Order → List Exchange → Found
-refusal (pass o) es = firstRefused o [] es
+refusal (pass o) es = firstRefused o es
 refusal (refuse n) es = found (because n)
 
 -- ---- the answer
 
-abbrev pub answerTo : Order → List Exchange → Found → Due → Ruling
-answerTo o es (found w) x = stop w
-answerTo o es none (op x) = issue (command o es x)
-answerTo o es none no-more = done
+-- the command of an operation: a WRITE starts where the next block goes
+abbrev pub command : Order → List Exchange → Op → Command
+command o es x = record { op = x; address = addressAt (seen (o .method) es .at) }
 
--- "An order that 1 to 3 refuse gives no command"; for any other: the first refusal, the command that is due, or done
+abbrev pub answerTo : Order → List Exchange → Found → List Op → Ruling
+answerTo o es (found w) l = stop w
+answerTo o es none [] = done
+answerTo o es none (x ∷ l) = issue (command o es x)
+
+-- "An order that 1 to 3 refuse gives no command"; for any other: the first refusal, the command of the operation due, or done
 abbrev pub ruled : Outcome Order → List Exchange → Ruling
-ruled (pass o) es = answerTo o es (firstRefused o [] es) (entry (script o) (goods es))
+ruled (pass o) es = answerTo o es (firstRefused o es) (left o es)
 ruled (refuse n) es = stop (because n)
 
 -- a reply answers the command that was given, if one was
-abbrev pub exchanged : Ruling → Reply → List Exchange
-exchanged (issue c) r = record { command = c; reply = r } ∷ []
-exchanged done r = []
-exchanged (stop w) r = []
+abbrev pub exchanged : Ruling → Reply → List Exchange → List Exchange
+exchanged (issue c) y es = record { command = c; reply = y } ∷ es
+exchanged done y es = es
+exchanged (stop w) y es = es
 
 -- the exchanges that replies lead to by the rules, after those before them
 abbrev pub play : Outcome Order → List Exchange → List Reply → List Exchange
 play q es [] = es
-play q es (r ∷ rs) = play q (es ++ exchanged (ruled q es) r) rs
+play q es (y ∷ ys) = play q (exchanged (ruled q es) y es) ys
 
 -- ---- recorded and closed
 

@@ -1,6 +1,9 @@
--- The commands of a job whose replies are all good, from the order alone and before their addresses are known.
+-- The plan of a job: its operations if all replies are good, from the order alone and before their addresses are known.
+use mathlib.Core.Bool.{Bool, true, false, _||_}
 use mathlib.Core.List.{List, [], _∷_, _++_}
 use Prim.Native.Nat.{ℕ, zero, suc, _+_, _-_, _*_, _/_, min}
+use lib.Dec.{eqb}
+use Rattle.mmc.specs.Bytes.{if}
 use Rattle.mmc.specs.Order.{tracksIn}
 use Rattle.mmc.specs.Times.{leadFrames}
 use Rattle.mmc.specs.Commands.{mostBlocks}
@@ -8,21 +11,64 @@ use Rattle.mmc.specs.declared.order.Order.{Order}
 use Rattle.mmc.specs.declared.order.Track.{Track}
 use Rattle.mmc.specs.declared.order.Method.{Method}
 use Rattle.mmc.specs.declared.order.Method.the-variants.{Tao, Sao}
+use Rattle.recorder.specs.declared.script.Op.{Op}
+use Rattle.recorder.specs.declared.script.Op.the-variants.{GetConfiguration, ReadDiscInformation, ReadTrackInformation, ModeSelect, SendCueSheet, Write, SynchronizeCache, CloseTrack, CloseSession}
 
--- an operation is a command without its address: 46h, 51h, 52h, 55h for a track, 5Dh, a WRITE with its track (0: the pause),
--- first block and count, 35h, 5Bh function 1, 5Bh function 2
-pub data Op : Type 0 where
-  configuration : Op
-  disc-information : Op
-  track-information : Op
-  page : ℕ → Op
-  cue-sheet : Op
-  write : ℕ → ℕ → ℕ → Op
-  synchronize : Op
-  close-track : Op
-  close-session : Op
+-- ---- an operation: a command without its address
 
--- ---- the writes
+-- MMC's operation codes
+abbrev pub code : Op → ℕ
+code GetConfiguration = 0x46
+code ReadDiscInformation = 0x51
+code (ReadTrackInformation t) = 0x52
+code (ModeSelect t) = 0x55
+code SendCueSheet = 0x5D
+code (Write t f k) = 0x2A
+code (SynchronizeCache t) = 0x35
+code (CloseTrack t) = 0x5B
+code CloseSession = 0x5B
+
+-- its track: 0 for the pause, and where it has none
+abbrev pub trackIn : Op → ℕ
+trackIn GetConfiguration = 0
+trackIn ReadDiscInformation = 0
+trackIn (ReadTrackInformation t) = t .0
+trackIn (ModeSelect t) = t .0
+trackIn SendCueSheet = 0
+trackIn (Write t f k) = t .0
+trackIn (SynchronizeCache t) = t .0
+trackIn (CloseTrack t) = t .0
+trackIn CloseSession = 0
+
+-- what belongs to a WRITE of a track, first block and count, and to no other operation
+abbrev pub ofWrite : {B : Type 0} → B → (ℕ → ℕ → ℕ → B) → Op → B
+ofWrite z g GetConfiguration = z
+ofWrite z g ReadDiscInformation = z
+ofWrite z g (ReadTrackInformation t) = z
+ofWrite z g (ModeSelect t) = z
+ofWrite z g SendCueSheet = z
+ofWrite z g (Write t f k) = g (t .0) (f .0) (k .0)
+ofWrite z g (SynchronizeCache t) = z
+ofWrite z g (CloseTrack t) = z
+ofWrite z g CloseSession = z
+
+-- how many blocks it puts, in the pause too
+abbrev pub countIn : Op → ℕ
+countIn x = ofWrite 0 (λ t f k. k) x
+
+-- "every 35h and 5Bh"
+abbrev pub isClosing : Op → Bool
+isClosing x = eqb (code x) 0x35 || eqb (code x) 0x5B
+
+-- each element's part, one after another
+abbrev pub gather : {A B : Type 0} → (A → List B) → List A → List B
+gather f [] = []
+gather f (x ∷ xs) = f x ++ gather f xs
+
+-- ---- the WRITEs of a piece: of the pause, which is track 0, or of a track
+
+abbrev pub write : ℕ → ℕ → ℕ → Op
+write t f k = Write (record { 0 = t }) (record { 0 = f }) (record { 0 = k })
 
 -- "A WRITE takes the lesser of 16 and what is left of its pause or track": of l blocks, those from the block f on
 abbrev pub portion : ℕ → ℕ → ℕ
@@ -32,47 +78,54 @@ portion l f = min (l - f) mostBlocks
 abbrev pub writesFor : ℕ → ℕ
 writesFor l = (l + 15) / 16
 
--- k WRITEs of the track t, which has l blocks, from its block f on
-abbrev pub writesFrom : ℕ → ℕ → ℕ → ℕ → List Op
-writesFrom t f l zero = []
-writesFrom t f l (suc k) = write t f (portion l f) ∷ writesFrom t (f + portion l f) l k
+-- k WRITEs of the piece t, of l blocks, from its block f on
+abbrev pub writes : ℕ → ℕ → ℕ → ℕ → List Op
+writes t l f zero = []
+writes t l f (suc k) = write t f (portion l f) ∷ writes t l (f + portion l f) k
 
--- all of its WRITEs
-abbrev pub writesOf : ℕ → ℕ → List Op
-writesOf t l = writesFrom t 0 l (writesFor (l - 0))
+-- all of its WRITEs from the block f on
+abbrev pub writesFrom : ℕ → ℕ → ℕ → List Op
+writesFrom t l f = writes t l f (writesFor (l - f))
 
--- ---- track at once
+-- ---- the parts of the script, each with what comes after it
 
--- one track, and what comes after it: "a fresh 52h before each but the first; 55h; WRITEs; 35h; 5Bh function 1"; the opening 52h
--- is the first track's
-abbrev pub taoTrack : ℕ → ℕ → List Op → List Op
-taoTrack t l after = track-information ∷ page t ∷ (writesOf t l ++ (synchronize ∷ close-track ∷ after))
+-- a track has its own 52h, and starts where that says: "In TAO a track starts at the address of its latest 52h"
+abbrev pub stepwise : Method → Bool
+stepwise Tao = true
+stepwise Sao = false
 
--- the tracks after the first t, and "after the last track: 5Bh function 2"
-abbrev pub taoTracks : ℕ → List Track → List Op
-taoTracks t [] = close-session ∷ []
-taoTracks t (x ∷ xs) = taoTrack (suc t) (x .length .0) (taoTracks (suc t) xs)
+-- SAO: the opening 52h, "55h; 5Dh; ten WRITEs of zero-filled blocks for the pause"; TAO: the opening 52h is the first track's
+abbrev pub beforeBy : Method → List Op → List Op
+beforeBy Tao after = after
+beforeBy Sao after = ReadTrackInformation (record { 0 = 1 }) ∷ ModeSelect (record { 0 = 1 }) ∷ SendCueSheet ∷ (writesFrom 0 leadFrames 0 ++ after)
 
--- ---- session at once
+-- the track t, of l blocks. TAO: "a fresh 52h before each but the first; 55h; WRITEs; 35h; 5Bh function 1"; SAO: its WRITEs
+abbrev pub trackBy : Method → ℕ → ℕ → List Op → List Op
+trackBy Tao t l after =
+    ReadTrackInformation (record { 0 = t }) ∷ ModeSelect (record { 0 = t }) ∷ (writesFrom t l 0 ++ (SynchronizeCache (record { 0 = t }) ∷ CloseTrack (record { 0 = t }) ∷ after))
+trackBy Sao t l after = writesFrom t l 0 ++ after
 
--- "55h; 5Dh; ten WRITEs of zero-filled blocks for the pause", after the opening 52h
-abbrev pub saoPause : List Op → List Op
-saoPause after = track-information ∷ page 1 ∷ cue-sheet ∷ (writesOf 0 leadFrames ++ after)
+-- TAO: "After the last track: 5Bh function 2"; SAO: "35h. No 5Bh"
+abbrev pub endBy : Method → ℕ → List Op
+endBy Tao n = CloseSession ∷ []
+endBy Sao n = SynchronizeCache (record { 0 = n }) ∷ []
 
--- the tracks after the first t, and "35h. No 5Bh"
-abbrev pub saoTracks : ℕ → List Track → List Op
-saoTracks t [] = synchronize ∷ []
-saoTracks t (x ∷ xs) = writesOf (suc t) (x .length .0) ++ saoTracks (suc t) xs
+abbrev pub beforeTracks : Order → List Op → List Op
+beforeTracks o after = beforeBy (o .method) after
 
--- ---- the script
+abbrev pub oneTrack : Order → ℕ → ℕ → List Op → List Op
+oneTrack o t l after = trackBy (o .method) t l after
 
-abbrev pub session : Method → List Track → List Op
-session Tao ts = taoTracks 0 ts
-session Sao ts = saoPause (saoTracks 0 ts)
+-- these tracks, which come after the first t, and the end
+abbrev pub eachTrack : Order → ℕ → List Track → List Op
+eachTrack o t [] = endBy (o .method) (o .count)
+eachTrack o t (x ∷ xs) = oneTrack o (suc t) (x .length .0) (eachTrack o (suc t) xs)
 
--- "46h, 51h, 52h open a job, once each in this order", and the session begins with 52h
+-- "46h, 51h, 52h open a job, once each in this order", and what comes before the tracks, or the first track, begins with the 52h
 abbrev pub script : Order → List Op
-script o = configuration ∷ disc-information ∷ session (o .method) (tracksIn o)
+script o = GetConfiguration ∷ ReadDiscInformation ∷ beforeTracks o (eachTrack o 0 (tracksIn o))
+
+-- ---- the exact count
 
 -- W, "the sum over tracks of length/16 rounded up"
 abbrev pub writesIn : List Track → ℕ
@@ -87,7 +140,7 @@ expectedBy Sao n w = 16 + w
 abbrev pub expected : Order → ℕ
 expected o = expectedBy (o .method) (o .count) (writesIn (tracksIn o))
 
--- ---- the ordered blocks
+-- ---- the ordered blocks and the closing commands
 
 -- a block of a track: the track's number, and which of its blocks, from 0 on
 pub record Block : Type 0 where
@@ -99,7 +152,7 @@ abbrev pub blocks : ℕ → ℕ → ℕ → List Block
 blocks t f zero = []
 blocks t f (suc k) = record { track = t; number = f } ∷ blocks t (suc f) k
 
--- "The ordered blocks are each track's from first to last, track after track": those of the tracks after the first t
+-- "The ordered blocks are each track's from first to last, track after track": those of these tracks, which come after the first t
 abbrev pub blocksFrom : ℕ → List Track → List Block
 blocksFrom t [] = []
 blocksFrom t (x ∷ xs) = blocks (suc t) 0 (x .length .0) ++ blocksFrom (suc t) xs
@@ -107,15 +160,17 @@ blocksFrom t (x ∷ xs) = blocks (suc t) 0 (x .length .0) ++ blocksFrom (suc t) 
 abbrev pub ordered : Order → List Block
 ordered o = blocksFrom 0 (tracksIn o)
 
--- ---- the closing commands: "every 35h and 5Bh of the rules"
+-- "its track blocks": the pause has none
+abbrev pub trackBlocks : ℕ → ℕ → ℕ → List Block
+trackBlocks zero f k = []
+trackBlocks (suc t) f k = blocks (suc t) f k
 
-abbrev pub taoClosings : List Track → List Op
-taoClosings [] = close-session ∷ []
-taoClosings (x ∷ xs) = synchronize ∷ close-track ∷ taoClosings xs
+abbrev pub blocksIn : Op → List Block
+blocksIn x = ofWrite [] trackBlocks x
 
-abbrev pub closingsBy : Method → List Track → List Op
-closingsBy Tao ts = taoClosings ts
-closingsBy Sao ts = synchronize ∷ []
+abbrev pub closingIn : Op → List Op
+closingIn x = if (isClosing x) (x ∷ []) []
 
+-- "every 35h and 5Bh of the rules": those of the script
 abbrev pub closings : Order → List Op
-closings o = closingsBy (o .method) (tracksIn o)
+closings o = gather closingIn (script o)

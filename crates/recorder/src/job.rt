@@ -1,101 +1,56 @@
 // The plain job: what it holds, what comes out of each step, and the steps.
 ghost use mathlib.Core.Path.{_≡_};
-ghost use mathlib.Core.Bool.{true};
-ghost use Prim.Native.Nat.{ℕ, _+_, _<_, _^_};
-ghost use lib.IntN.{pos};
-ghost use Rattle.mmc.specs.declared.order.Order.{Order};
-ghost use Rattle.recorder.specs.Answers.{issue, said, noBytes, bytesOf};
-ghost use Rattle.recorder.specs.Script.{portion};
-ghost use Rattle.recorder.specs.Replies.{readProfile, readStatus, readInformation, failureOf};
+ghost use mathlib.Core.Bool.{_&&_};
+ghost use mathlib.Core.List.{[]};
+ghost use Rattle.recorder.specs.Answers.{issue, said, cdbOf};
+ghost use Rattle.recorder.specs.declared.job.Phase.the-variants.{Going};
 ghost use Rattle.recorder.specs.History.{Takes, Gives};
-ghost use Rattle.recorder.specs.Job.{nextIn, pieceOf, pendingOf, movedTo, placedAt, startAt, begunAt, pieceEnded, beforeBlock, afterWrite, afterPage, afterCloseTrack, turnIn, afterProfile, afterStatus, afterInformation, afterSynchronize, goodAt, afterFailure, counted, stateOf, nextOf, stepOf, endedAt, inJob, inPiece, standsAt, validOf};
-use crate::replies::DiscReply;
-use crate::replies::Failure;
-use crate::replies::ProfileReply;
+ghost use Rattle.recorder.specs.Job.{pieceOf, inOrder, inTime, inPiece, isWrite, standsAt, standsIn, endedAt, validOf, Ready, commandOf, turnIn, advanced, turnOf, oneMore, stateOf, nextIn, nextOf, stepOf};
+use crate::answers::Answer;
+use crate::answers::Cdb;
+use crate::answers::Command;
+use crate::answers::cdb_of;
+use crate::answers::no_cdb;
+use crate::replies::Reading;
 use crate::replies::Sense;
-use crate::replies::TrackInformation;
-use crate::replies::TrackReply;
-use crate::replies::failure_of;
-use crate::replies::read_information;
-use crate::replies::read_profile;
-use crate::replies::read_status;
-use crate::rules::frames_to;
-use crate::rules::track_fault;
-use mmc::commands::close_track_session;
-use mmc::commands::get_configuration;
-use mmc::commands::mode_select;
-use mmc::commands::read_disc_information;
-use mmc::commands::read_track_information;
-use mmc::commands::send_cue_sheet;
-use mmc::commands::synchronize_cache;
-use mmc::commands::write;
+use crate::replies::read_reply;
+use crate::rules::Seen;
+use crate::rules::Verdict;
+use crate::rules::judge_reply;
+use crate::rules::see_reply;
+use crate::script::Following;
+use crate::script::Op;
+use crate::script::op_after;
+use crate::script::is_stepwise;
+use crate::script::portion_of;
+use crate::script::track_of;
 use mmc::order::Method;
 use mmc::order::Order;
-use mmc::order::is_sao;
 use mmc::order_block::read_order;
 use mmc::refusals::Check;
 use mmc::refusals::Refusal;
 use mmc::times::address_at;
-use mmc::units::BlockAddress;
-use mmc::units::BlockCount;
 use mmc::units::FrameCount;
-use mmc::units::TrackNumber;
 
-// A command for the drive. A WRITE comes with its track (0: the pause), first block, count and address.
-pub enum Command {
-    GetConfiguration,
-    ReadDiscInformation,
-    ReadTrackInformation,
-    ModeSelect(TrackNumber),
-    SendCueSheet,
-    Write {
-        track: TrackNumber,
-        first: BlockCount,
-        count: BlockCount,
-        address: BlockAddress,
-    },
-    SynchronizeCache,
-    CloseTrack,
-    CloseSession,
-}
-
-// What a call answers: a command, or an end.
-pub enum Answer {
-    Issue(Command),
-    Done,
-    Stop(Refusal),
-    DriveFailed(Sense),
-}
-
-// The command whose reply the job waits for, with the first block of a WRITE; or how it ended.
-pub enum Place {
-    AtConfiguration,
-    AtDiscInformation,
-    AtTrackInformation,
-    AtPage,
-    AtCueSheet,
-    AtWrite(BlockCount),
-    AtSynchronize,
-    AtCloseTrack,
-    AtCloseSession,
+// Whether a job goes on, or how it ended.
+pub enum Phase {
+    Going,
     Finished,
     Stopped,
 }
 
-// Where the job stands. The track is the latest begun, in a session at once 0 in the pause. The frames are those
-// to the next WRITE, and between two tracks those to the end of the one before.
+// Where the job stands: the operation whose reply is awaited, and what was seen in the replies so far.
 pub struct Progress {
-    pub place: Place,
-    pub track: TrackNumber,
-    pub at: FrameCount,
-    pub profile: u16,
-    pub status: u8,
+    pub place: Op,
+    pub seen: Seen,
 }
 
-// The recorder's state: the order, where the job stands, and how many commands were given since the order was taken.
+// The recorder's state: the order, where the job stands, whether it goes on, and how many commands were given since the order was
+// taken.
 pub struct Recorder {
     pub order: Order,
     pub progress: Progress,
+    pub phase: Phase,
     pub count: u64,
 }
 
@@ -104,10 +59,10 @@ pub struct Step {
     pub state: Recorder,
     pub answer: Answer,
     pub count: u64,
-    pub bytes: [u8; 10],
+    pub cdb: Cdb,
 }
 
-// What a reply leads to: the command of a place, the end as done, or a stop.
+// What a reply leads to: the next command, the end as done, or a stop.
 enum Move {
     Onward(Progress),
     Finish,
@@ -116,7 +71,7 @@ enum Move {
 }
 
 // The blocks of a piece of the job: the pause, or a track; none past the last row.
-fn piece_length(o: Order, t: u16) -> u32
+fn piece_length(o: Order, t: u32) -> u32
     ensures { λ r. ⌜ r ≡ pieceOf o t ⌝ }
 {
     if t == 0 {
@@ -130,315 +85,182 @@ fn piece_length(o: Order, t: u16) -> u32
     track.length.0
 }
 
-// The blocks of the WRITE of a piece of so many blocks from one of them on.
-fn portion_of(length: u32, first: u32) -> u32
-    ensures { λ r. ⌜ r ≡ portion length first ⌝ }
+// Whether a track is one of so many.
+fn in_order(tracks: u8, track: u16) -> bool
+    ensures { λ r. ⌜ r ≡ inOrder tracks track ⌝ }
 {
-    if length <= first {
-        return 0;
+    if track < 1 {
+        return false;
     }
-    let left = length - first;
-    if 16 < left { 16 } else { left }
+    track <= tracks as u16
 }
 
-// At a place, with a track and at a frame.
-fn moved_to(s: Progress, p: Place, track: u16, at: u32) -> Progress
-    ensures { λ r. ⌜ r ≡ movedTo s p track at ⌝ }
+// Whether so many blocks from a frame on end at most at the last frame.
+fn in_time(length: u32, at: FrameCount) -> bool
+    ensures { λ r. ⌜ r ≡ inTime length at ⌝ }
 {
-    Progress {
-        place: p,
-        track: TrackNumber(track),
-        at: FrameCount(at),
-        profile: s.profile,
-        status: s.status,
-    }
+    at.0 as u64 + length as u64 <= 449999
 }
 
-// At a place, all else as it was.
-fn placed_at(s: Progress, p: Place) -> Progress
-    ensures { λ r. ⌜ r ≡ placedAt s p ⌝ }
+// Whether a job of so many tracks writes a piece: a track, or in a session at once the pause too, if the next track has a block.
+fn in_piece(m: Method, tracks: u8, next: u32, track: u16) -> bool
+    ensures { λ r. ⌜ r ≡ inPiece m tracks next track ⌝ }
 {
-    let track = s.track;
-    let at = s.at;
-    Progress {
-        place: p,
-        track: track,
-        at: at,
-        profile: s.profile,
-        status: s.status,
-    }
-}
-
-// At the end of a piece, a frame; in a session at once the next of the tracks begins there.
-fn piece_ended(m: Method, tracks: u8, s: Progress, at: u32) -> Progress
-    ensures { λ r. ⌜ r ≡ pieceEnded m tracks s at ⌝ }
-{
-    let t = s.track.0;
     match m {
-        Method::Tao => moved_to(s, Place::AtSynchronize, t, at),
+        Method::Tao => in_order(tracks, track),
         Method::Sao => {
-            if t < tracks as u16 {
-                moved_to(s, Place::AtWrite(BlockCount(0)), t + 1, at)
-            } else {
-                moved_to(s, Place::AtSynchronize, t, at)
+            if track < tracks as u16 {
+                return 0 < next;
             }
+            track == tracks as u16
         }
     }
 }
 
-// Before a block of a piece of so many blocks, at a frame, or at the piece's end.
-fn before_block(m: Method, tracks: u8, length: u32, s: Progress, first: u32, at: u32) -> Progress
-    ensures { λ r. ⌜ r ≡ beforeBlock m tracks length s first at ⌝ }
+// Whether a WRITE from a block on, of so many, is one of a piece of so many blocks, and the piece ends at most at the last frame.
+fn is_write(length: u32, first: u32, count: u32, at: FrameCount) -> bool
+    ensures { λ r. ⌜ r ≡ isWrite length first count at ⌝ }
 {
-    if first < length {
-        moved_to(s, Place::AtWrite(BlockCount(first)), s.track.0, at)
-    } else {
-        piece_ended(m, tracks, s, at)
+    if length <= first {
+        return false;
     }
-}
-
-// After a WRITE from a block on.
-fn after_write(m: Method, tracks: u8, length: u32, s: Progress, first: u32) -> Progress
-    requires { ⌜ s .at .0 + portion length first < 2 ^ 32 ⌝ }
-    ensures { λ r. ⌜ r ≡ afterWrite m tracks length s first ⌝ }
-{
-    let k = portion_of(length, first);
-    before_block(m, tracks, length, s, first + k, s.at.0 + k)
-}
-
-// After MODE SELECT: the track's WRITEs, or the cue sheet.
-fn after_page(m: Method, tracks: u8, length: u32, s: Progress) -> Progress
-    ensures { λ r. ⌜ r ≡ afterPage m tracks length s ⌝ }
-{
-    match m {
-        Method::Tao => before_block(Method::Tao, tracks, length, s, 0, s.at.0),
-        Method::Sao => placed_at(s, Place::AtCueSheet),
+    if count != portion_of(length, first) {
+        return false;
     }
+    in_time(length - first, at)
 }
 
-// After CLOSE TRACK SESSION of a track: the next of the tracks, or the session.
-fn after_close_track(tracks: u8, s: Progress) -> Progress
-    ensures { λ r. ⌜ r ≡ afterCloseTrack tracks s ⌝ }
+// Both.
+fn both(a: bool, b: bool) -> bool
+    ensures { λ r. ⌜ r ≡ (a && b) ⌝ }
 {
-    if s.track.0 < tracks as u16 {
-        placed_at(s, Place::AtTrackInformation)
-    } else {
-        placed_at(s, Place::AtCloseSession)
-    }
+    a && b
 }
 
-// After SYNCHRONIZE CACHE: the track is closed, or a session at once is done.
-fn after_synchronize(m: Method, s: Progress) -> Move
-    ensures { λ r. ⌜ turnIn r ≡ afterSynchronize m s ⌝ }
+// Whether a job of so many tracks can wait for the reply to an operation whose piece and the next one have so many blocks, with the
+// next block at a frame.
+fn stands_at(m: Method, tracks: u8, length: u32, next: u32, place: Op, at: FrameCount) -> bool
+    ensures { λ r. ⌜ r ≡ standsAt m tracks length next at place ⌝ }
 {
-    match m {
-        Method::Tao => Move::Onward(placed_at(s, Place::AtCloseTrack)),
-        Method::Sao => Move::Finish,
-    }
-}
-
-// After GET CONFIGURATION.
-fn after_profile(s: Progress, bytes: &[u8]) -> Move
-    ensures { λ r. ⌜ turnIn r ≡ afterProfile s (readProfile (now (bytes .entry))) ⌝ }
-{
-    let track = s.track;
-    let at = s.at;
-    let reply = read_profile(bytes);
-    match reply {
-        ProfileReply::Profile(p) => Move::Onward(Progress {
-            place: Place::AtDiscInformation,
-            track: track,
-            at: at,
-            profile: p,
-            status: s.status,
-        }),
-        ProfileReply::Refused(r) => Move::Halt(r),
-    }
-}
-
-// After READ DISC INFORMATION.
-fn after_status(s: Progress, bytes: &[u8]) -> Move
-    ensures { λ r. ⌜ turnIn r ≡ afterStatus s (readStatus (now (bytes .entry))) ⌝ }
-{
-    let track = s.track;
-    let at = s.at;
-    let reply = read_status(bytes);
-    match reply {
-        DiscReply::Status(q) => Move::Onward(Progress {
-            place: Place::AtTrackInformation,
-            track: track,
-            at: at,
-            profile: s.profile,
-            status: q,
-        }),
-        DiscReply::Refused(r) => Move::Halt(r),
-    }
-}
-
-// One track more: in a track at once it starts at the address that was named.
-fn begun_at(m: Method, s: Progress, i: TrackInformation) -> Progress
-    requires { ⌜ s .track .0 < 65535 ⌝ }
-    requires { ⌜ startAt m s i < 2 ^ 32 ⌝ }
-    requires { ⌜ ((n : ℕ) × ((i .address .0 ≡ pos n) × (n < 2 ^ 32))) ⌝ }
-    ensures { λ r. ⌜ r ≡ begunAt m s i ⌝ }
-{
-    let t = s.track.0;
-    let address = i.address;
-    match m {
-        Method::Tao => moved_to(s, Place::AtPage, t + 1, frames_to(address) as u32),
-        Method::Sao => moved_to(s, Place::AtPage, t + 1, s.at.0),
-    }
-}
-
-// After READ TRACK INFORMATION: 4, what is judged of the track, or its page.
-fn after_information(o: Order, s: Progress, bytes: &[u8]) -> Move
-    requires { ⌜ s .track .0 < 65535 ⌝ }
-    ensures { λ r. ⌜ turnIn r ≡ afterInformation o s (readInformation (now (bytes .entry))) ⌝ }
-{
-    let reply = read_information(bytes);
-    let TrackReply::Information(i) = reply else {
-        return Move::Halt(Refusal::ReplyForm);
-    };
-    let m = o.method;
-    let address = i.address;
-    let check = track_fault(o, s, frames_to(address), i);
-    match check {
-        Check::Refused(r) => Move::Halt(r),
-        Check::Passed => Move::Onward(begun_at(m, s, i)),
-    }
-}
-
-// What a good reply leads to.
-fn good_move(o: Order, s: Progress, bytes: &[u8]) -> Move
-    requires { ⌜ standsAt (s .place) o s ≡ true ⌝ }
-    ensures { λ r. ⌜ turnIn r ≡ goodAt (s .place) o s (now (bytes .entry)) ⌝ }
-{
-    let m = o.method;
-    let n = o.count;
-    let length = piece_length(o, s.track.0);
-    let place = s.place;
+    let track = track_of(place);
+    let begun = in_order(tracks, track);
+    let stepwise = is_stepwise(m);
+    let timely = in_time(length, at);
+    let page = both(begun, timely);
+    let sheet = both(!stepwise, timely);
+    let closed = both(stepwise, begun);
+    let piece = in_piece(m, tracks, next, track);
     match place {
-        Place::AtConfiguration => after_profile(s, bytes),
-        Place::AtDiscInformation => after_status(s, bytes),
-        Place::AtTrackInformation => after_information(o, s, bytes),
-        Place::AtPage => Move::Onward(after_page(m, n, length, s)),
-        Place::AtCueSheet => Move::Onward(moved_to(s, Place::AtWrite(BlockCount(0)), 0, s.at.0)),
-        Place::AtWrite(f) => Move::Onward(after_write(m, n, length, s, f.0)),
-        Place::AtSynchronize => after_synchronize(m, s),
-        Place::AtCloseTrack => Move::Onward(after_close_track(n, s)),
-        Place::AtCloseSession => Move::Finish,
-        Place::Finished => Move::Halt(Refusal::JobEnded),
-        Place::Stopped => Move::Halt(Refusal::JobEnded),
+        Op::GetConfiguration => true,
+        Op::ReadDiscInformation => true,
+        Op::ReadTrackInformation(_) => begun,
+        Op::ModeSelect(_) => page,
+        Op::SendCueSheet => sheet,
+        Op::Write { track: _, first, count } => both(piece, is_write(length, first.0, count.0, at)),
+        Op::SynchronizeCache(_) => begun,
+        Op::CloseTrack(_) => closed,
+        Op::CloseSession => stepwise,
     }
 }
 
-// What a failed reply leads to: the same command where the drive is busy.
-fn failed_move(s: Progress, bytes: &[u8]) -> Move
-    ensures { λ r. ⌜ turnIn r ≡ afterFailure s (failureOf (now (bytes .entry))) ⌝ }
+// The same of an order: it has 1 to 99 tracks.
+fn stands_in(m: Method, tracks: u8, length: u32, next: u32, place: Op, at: FrameCount) -> bool
+    ensures { λ r. ⌜ r ≡ standsIn m tracks length next at place ⌝ }
 {
-    let failure = failure_of(bytes);
-    match failure {
-        Failure::Busy => Move::Onward(s),
-        Failure::Failed(x) => Move::Fail(x),
+    if tracks < 1 {
+        return false;
+    }
+    if 99 < tracks {
+        return false;
+    }
+    stands_at(m, tracks, length, next, place, at)
+}
+
+// Whether a job has ended.
+fn is_ended(p: Phase) -> bool
+    ensures { λ r. ⌜ r ≡ endedAt p ⌝ }
+{
+    match p {
+        Phase::Going => false,
+        Phase::Finished => true,
+        Phase::Stopped => true,
     }
 }
 
-// The command whose reply the job waits for.
-fn pending(o: Order, s: Progress) -> Command
-    ensures { λ r. ⌜ r ≡ pendingOf o s ⌝ }
+// The command that the job waits for the reply to.
+fn command_of(s: Progress) -> Command
+    ensures { λ r. ⌜ r ≡ commandOf s ⌝ }
 {
     let place = s.place;
-    let track = s.track;
-    let at = s.at;
-    match place {
-        Place::AtConfiguration => Command::GetConfiguration,
-        Place::AtDiscInformation => Command::ReadDiscInformation,
-        Place::AtTrackInformation => Command::ReadTrackInformation,
-        Place::AtPage => Command::ModeSelect(track),
-        Place::AtCueSheet => Command::SendCueSheet,
-        Place::AtWrite(f) => Command::Write {
-            track: track,
-            first: f,
-            count: BlockCount(portion_of(piece_length(o, track.0), f.0)),
-            address: address_at(at),
-        },
-        Place::AtSynchronize => Command::SynchronizeCache,
-        Place::AtCloseTrack => Command::CloseTrack,
-        Place::AtCloseSession => Command::CloseSession,
-        Place::Finished => Command::GetConfiguration,
-        Place::Stopped => Command::GetConfiguration,
+    let seen = s.seen;
+    let at = seen.at;
+    Command {
+        op: place,
+        address: address_at(at),
     }
 }
 
-// The bytes of a command; the cue sheet's length goes by the number of tracks.
-fn command_bytes(tracks: u8, c: Command) -> [u8; 10]
-    ensures { λ r. ⌜ ((o : Order) → o .count ≡ tracks → r ≡ bytesOf o (issue c)) ⌝ }
+// Goes on to what comes after an operation.
+fn advance(next: Following, v: Seen) -> Move
+    ensures { λ r. ⌜ turnIn r ≡ advanced next v ⌝ }
 {
-    let mut out = [0u8; 10];
-    let _made = match c {
-        Command::GetConfiguration => get_configuration(&mut out),
-        Command::ReadDiscInformation => read_disc_information(&mut out),
-        Command::ReadTrackInformation => read_track_information(&mut out),
-        Command::ModeSelect(_) => mode_select(&mut out),
-        Command::SendCueSheet => send_cue_sheet(8 * (tracks as usize + 3), &mut out),
-        Command::Write {
-            track: _,
-            first: _,
-            count,
-            address,
-        } => write(address, count, &mut out),
-        Command::SynchronizeCache => synchronize_cache(&mut out),
-        Command::CloseTrack => close_track_session(1, TrackNumber(0xFF), &mut out),
-        Command::CloseSession => close_track_session(2, TrackNumber(0), &mut out),
-    };
-    out
+    match next {
+        Following::Next(op) => Move::Onward(Progress {
+            place: op,
+            seen: v,
+        }),
+        Following::Nothing => Move::Finish,
+    }
 }
 
 // One command more, up to the most that 64 bits count.
 fn counted_up(n: u64) -> u64
-    ensures { λ r. ⌜ r ≡ counted n ⌝ }
+    ensures { λ r. ⌜ r ≡ oneMore n ⌝ }
 {
     if n < 18446744073709551615 { n + 1 } else { n }
 }
 
 // Gives the command of a place.
 fn issued(o: Order, s: Progress, count: u64) -> Step
-    ensures { λ r. ⌜ nextIn r ≡ nextOf (stateOf o s count) (issue (pendingOf o s)) ⌝ }
+    ensures { λ r. ⌜ nextIn r ≡ nextOf (stateOf o s Going count) (issue (commandOf s)) ⌝ }
 {
-    let command = pending(o, s);
-    let bytes = command_bytes(o.count, command);
+    let command = command_of(s);
+    let cdb = cdb_of(o.count, command);
     Step {
         state: Recorder {
             order: o,
             progress: s,
+            phase: Phase::Going,
             count: count,
         },
         answer: Answer::Issue(command),
         count: count,
-        bytes: bytes,
+        cdb: cdb,
     }
 }
 
 // Answers without a command.
 fn answered(r: Recorder, answer: Answer) -> Step
-    ensures { λ s. ⌜ nextIn s ≡ record { state = r; answer = said answer; count = r .count; bytes = noBytes } ⌝ }
+    ensures { λ s. ⌜ nextIn s ≡ record { state = r; answer = said answer; count = r .count; cdb = cdbOf [] } ⌝ }
 {
+    let cdb = no_cdb();
     Step {
         state: r,
         answer: answer,
         count: r.count,
-        bytes: [0u8; 10],
+        cdb: cdb,
     }
 }
 
-// Ends the job at a place.
-fn ended(o: Order, s: Progress, count: u64, answer: Answer) -> Step
-    ensures { λ r. ⌜ nextIn r ≡ record { state = stateOf o s count; answer = said answer; count = count; bytes = noBytes } ⌝ }
+// Ends the job.
+fn ended(o: Order, s: Progress, phase: Phase, count: u64, answer: Answer) -> Step
+    ensures { λ r. ⌜ nextIn r ≡ record { state = stateOf o s phase count; answer = said answer; count = count; cdb = cdbOf [] } ⌝ }
 {
     answered(
         Recorder {
             order: o,
             progress: s,
+            phase: phase,
             count: count,
         },
         answer,
@@ -451,84 +273,29 @@ fn stepped(o: Order, s: Progress, count: u64, m: Move) -> Step
 {
     match m {
         Move::Onward(t) => issued(o, t, counted_up(count)),
-        Move::Finish => ended(o, placed_at(s, Place::Finished), count, Answer::Done),
-        Move::Halt(r) => ended(o, placed_at(s, Place::Stopped), count, Answer::Stop(r)),
-        Move::Fail(x) => ended(
-            o,
-            placed_at(s, Place::Stopped),
-            count,
-            Answer::DriveFailed(x),
-        ),
+        Move::Finish => ended(o, s, Phase::Finished, count, Answer::Done),
+        Move::Halt(r) => ended(o, s, Phase::Stopped, count, Answer::Stop(r)),
+        Move::Fail(x) => ended(o, s, Phase::Stopped, count, Answer::DriveFailed(x)),
     }
 }
 
-// Whether the job has ended.
-fn is_ended(p: Place) -> bool
-    ensures { λ r. ⌜ r ≡ endedAt p ⌝ }
-{
-    match p {
-        Place::AtConfiguration => false,
-        Place::AtDiscInformation => false,
-        Place::AtTrackInformation => false,
-        Place::AtPage => false,
-        Place::AtCueSheet => false,
-        Place::AtWrite(_) => false,
-        Place::AtSynchronize => false,
-        Place::AtCloseTrack => false,
-        Place::AtCloseSession => false,
-        Place::Finished => true,
-        Place::Stopped => true,
-    }
-}
-
-// Whether a track is one of so many that has begun; in a session at once it may be the pause.
-fn in_job(m: Method, tracks: u8, track: u16) -> bool
-    ensures { λ r. ⌜ r ≡ inJob m tracks track ⌝ }
-{
-    match m {
-        Method::Tao => {
-            if track < 1 {
-                return false;
-            }
-            track <= tracks as u16
-        }
-        Method::Sao => track <= tracks as u16,
-    }
-}
-
-// Whether a block lies in its piece of so many, and the piece ends at most at the last frame.
-fn in_piece(length: u32, first: u32, at: u32) -> bool
-    ensures { λ r. ⌜ r ≡ inPiece length first at ⌝ }
-{
-    if length <= first {
-        return false;
-    }
-    let left = length - first;
-    at as u64 + left as u64 <= 449999
-}
-
-// Whether the job can stand where it does.
-fn stands_at(o: Order, s: Progress) -> bool
-    ensures { λ r. ⌜ r ≡ standsAt (s .place) o s ⌝ }
+// What a reply leads to, where the piece at hand and the next one have so many blocks.
+fn turn(o: Order, s: Progress, length: u32, next: u32, reading: Reading) -> Move
+    requires { ⌜ Ready o s length next reading ⌝ }
+    ensures { λ r. ⌜ turnIn r ≡ turnOf o s reading ⌝ }
 {
     let m = o.method;
-    let n = o.count;
-    let t = s.track.0;
-    let sao = is_sao(m);
-    let begun = in_job(m, n, t);
     let place = s.place;
-    match place {
-        Place::AtConfiguration => true,
-        Place::AtDiscInformation => true,
-        Place::AtTrackInformation => t < n as u16,
-        Place::AtPage => begun,
-        Place::AtCueSheet => sao && begun,
-        Place::AtWrite(f) => begun && in_piece(piece_length(o, t), f.0, s.at.0),
-        Place::AtSynchronize => begun,
-        Place::AtCloseTrack => !sao && begun,
-        Place::AtCloseSession => !sao,
-        Place::Finished => true,
-        Place::Stopped => true,
+    let v = s.seen;
+    let verdict = judge_reply(o, place, v, reading);
+    match verdict {
+        Verdict::Again => Move::Onward(s),
+        Verdict::Onward => advance(
+            op_after(m, o.count, length, next, place),
+            see_reply(m, place, v, reading),
+        ),
+        Verdict::Refused(r) => Move::Halt(r),
+        Verdict::Failed(x) => Move::Fail(x),
     }
 }
 
@@ -537,11 +304,12 @@ pub fn take(block: &[u8]) -> Step
     ensures { λ s. ⌜ Takes (now (block .entry)) s ⌝ }
 {
     let first = Progress {
-        place: Place::AtConfiguration,
-        track: TrackNumber(0),
-        at: FrameCount(0),
-        profile: 0,
-        status: 0,
+        place: Op::GetConfiguration,
+        seen: Seen {
+            profile: 0,
+            status: 0,
+            at: FrameCount(0),
+        },
     };
     let read = read_order(block);
     let check = read.check;
@@ -557,19 +325,18 @@ impl Recorder {
     pub fn is_valid(self) -> bool
         ensures { λ r. ⌜ r ≡ validOf self ⌝ }
     {
-        let s = self.progress;
-        let place = s.place;
-        if is_ended(place) {
+        let phase = self.phase;
+        if is_ended(phase) {
             return true;
         }
         let o = self.order;
-        if o.count < 1 {
-            return false;
-        }
-        if 99 < o.count {
-            return false;
-        }
-        stands_at(o, s)
+        let s = self.progress;
+        let m = o.method;
+        let place = s.place;
+        let v = s.seen;
+        let at = v.at;
+        let track = track_of(place) as u32;
+        stands_in(m, o.count, piece_length(o, track), piece_length(o, track + 1), place, at)
     }
 
     // A reply to the latest command goes in: 3 for a state that fails the test, 13 for a job that has ended, both with the
@@ -577,19 +344,23 @@ impl Recorder {
     pub fn give(self, good: bool, bytes: &[u8]) -> Step
         ensures { λ s. ⌜ Gives self good (now (bytes .entry)) s ⌝ }
     {
-        if !self.is_valid() {
-            return answered(self, Answer::Stop(Refusal::FieldValue));
+        let phase = self.phase;
+        if is_ended(phase) {
+            return answered(self, Answer::Stop(Refusal::JobEnded));
         }
         let o = self.order;
         let s = self.progress;
+        let m = o.method;
         let place = s.place;
-        if is_ended(place) {
-            return answered(self, Answer::Stop(Refusal::JobEnded));
+        let v = s.seen;
+        let at = v.at;
+        let track = track_of(place) as u32;
+        let length = piece_length(o, track);
+        let next = piece_length(o, track + 1);
+        if !stands_in(m, o.count, length, next, place, at) {
+            return answered(self, Answer::Stop(Refusal::FieldValue));
         }
-        if good {
-            stepped(o, s, self.count, good_move(o, s, bytes))
-        } else {
-            stepped(o, s, self.count, failed_move(s, bytes))
-        }
+        let reading = read_reply(place, good, bytes);
+        stepped(o, s, self.count, turn(o, s, length, next, reading))
     }
 }

@@ -2,11 +2,12 @@
 ghost use mathlib.Core.Path.{_≡_};
 ghost use Prim.Native.Nat.{_≤_};
 ghost use lib.ListN.{length};
-ghost use Rattle.recorder.specs.Replies.{hasSense, senseOf, notReady, failureOf, readProfile, readStatus, informationOf, readInformation, profileIn, statusIn, informationIn};
+ghost use Rattle.mmc.specs.ReplyBlock.{replyOf};
+ghost use Rattle.recorder.specs.Replies.{hasSense, senseOf, notReady, readFailed, readProfile, readStatus, informationOf, readInformation, readGood, reading};
+use crate::script::Op;
 use mmc::bytes::byte_at;
 use mmc::bytes::number16;
 use mmc::bytes::number32;
-use mmc::refusals::Refusal;
 use mmc::units::BlockAddress;
 use mmc::units::BlockCount;
 
@@ -17,24 +18,6 @@ pub struct Sense {
     pub ascq: u8,
 }
 
-// A failed reply: the drive is busy and took nothing, or it failed.
-pub enum Failure {
-    Busy,
-    Failed(Sense),
-}
-
-// A good reply to GET CONFIGURATION.
-pub enum ProfileReply {
-    Profile(u16),
-    Refused(Refusal),
-}
-
-// A good reply to READ DISC INFORMATION.
-pub enum DiscReply {
-    Status(u8),
-    Refused(Refusal),
-}
-
 // The fields of a track that is about to be written: Damage, NWA_V, Next Writable Address, Free Blocks.
 pub struct TrackInformation {
     pub damaged: bool,
@@ -43,10 +26,16 @@ pub struct TrackInformation {
     pub free: BlockCount,
 }
 
-// A good reply to READ TRACK INFORMATION.
-pub enum TrackReply {
+// What a reply says: of a failed one, that the drive is busy and took nothing, or that it failed; of a good one, that it is too short or
+// of another type, the fields that are named for its command, or nothing that is read.
+pub enum Reading {
+    Busy,
+    Failed(Sense),
+    Malformed,
+    Profile(u16),
+    Status(u8),
     Information(TrackInformation),
-    Refused(Refusal),
+    Unread,
 }
 
 // Whether a failed reply bears a triple: fixed format sense data, current (70h) or deferred (71h).
@@ -89,50 +78,50 @@ fn not_ready(s: Sense) -> bool
     s.key == 0x02 && (s.asc == 0x04 && s.ascq == 0x08)
 }
 
-// What a failed reply says: busy, or the triple.
-pub(crate) fn failure_of(bytes: &[u8]) -> Failure
-    ensures { λ r. ⌜ r ≡ failureOf (now (bytes .entry)) ⌝ }
+// Reads a failed reply: busy, or the triple.
+fn read_failed(bytes: &[u8]) -> Reading
+    ensures { λ r. ⌜ r ≡ readFailed (now (bytes .entry)) ⌝ }
 {
     let sense = sense_of(bytes);
     let code = byte_at(bytes, 0) % 128;
     if code != 0x70 {
-        return Failure::Failed(sense);
+        return Reading::Failed(sense);
     }
     if not_ready(sense) {
-        Failure::Busy
+        Reading::Busy
     } else {
-        Failure::Failed(sense)
+        Reading::Failed(sense)
     }
 }
 
-// Reads a good reply to GET CONFIGURATION: 4, or the profile.
-pub(crate) fn read_profile(bytes: &[u8]) -> ProfileReply
-    ensures { λ r. ⌜ profileIn r ≡ readProfile (now (bytes .entry)) ⌝ }
+// Reads a good reply to GET CONFIGURATION: the profile.
+fn read_profile(bytes: &[u8]) -> Reading
+    ensures { λ r. ⌜ r ≡ readProfile (now (bytes .entry)) ⌝ }
 {
     if bytes.len() < 8 {
-        return ProfileReply::Refused(Refusal::ReplyForm);
+        return Reading::Malformed;
     }
     if number32(bytes) < 4 {
-        return ProfileReply::Refused(Refusal::ReplyForm);
+        return Reading::Malformed;
     }
-    ProfileReply::Profile(number16(&bytes[6..]) as u16)
+    Reading::Profile(number16(&bytes[6..]) as u16)
 }
 
-// Reads a good reply to READ DISC INFORMATION: 4, or the disc status.
-pub(crate) fn read_status(bytes: &[u8]) -> DiscReply
-    ensures { λ r. ⌜ statusIn r ≡ readStatus (now (bytes .entry)) ⌝ }
+// Reads a good reply to READ DISC INFORMATION: the disc status.
+fn read_status(bytes: &[u8]) -> Reading
+    ensures { λ r. ⌜ r ≡ readStatus (now (bytes .entry)) ⌝ }
 {
     if bytes.len() < 34 {
-        return DiscReply::Refused(Refusal::ReplyForm);
+        return Reading::Malformed;
     }
     if number16(bytes) < 32 {
-        return DiscReply::Refused(Refusal::ReplyForm);
+        return Reading::Malformed;
     }
     let status = byte_at(bytes, 2);
     if status / 32 != 0 {
-        return DiscReply::Refused(Refusal::ReplyForm);
+        return Reading::Malformed;
     }
-    DiscReply::Status((status % 4) as u8)
+    Reading::Status((status % 4) as u8)
 }
 
 // The fields of a whole reply to READ TRACK INFORMATION.
@@ -152,15 +141,43 @@ fn information_of(bytes: &[u8]) -> TrackInformation
     }
 }
 
-// Reads a good reply to READ TRACK INFORMATION: 4, or its fields.
-pub(crate) fn read_information(bytes: &[u8]) -> TrackReply
-    ensures { λ r. ⌜ informationIn r ≡ readInformation (now (bytes .entry)) ⌝ }
+// Reads a good reply to READ TRACK INFORMATION: its fields.
+fn read_information(bytes: &[u8]) -> Reading
+    ensures { λ r. ⌜ r ≡ readInformation (now (bytes .entry)) ⌝ }
 {
     if bytes.len() < 28 {
-        return TrackReply::Refused(Refusal::ReplyForm);
+        return Reading::Malformed;
     }
     if number16(bytes) < 26 {
-        return TrackReply::Refused(Refusal::ReplyForm);
+        return Reading::Malformed;
     }
-    TrackReply::Information(information_of(bytes))
+    Reading::Information(information_of(bytes))
+}
+
+// Reads a good reply, by its command. A command without data has nothing that is read.
+fn read_good(op: Op, bytes: &[u8]) -> Reading
+    ensures { λ r. ⌜ r ≡ readGood op (now (bytes .entry)) ⌝ }
+{
+    match op {
+        Op::GetConfiguration => read_profile(bytes),
+        Op::ReadDiscInformation => read_status(bytes),
+        Op::ReadTrackInformation(_) => read_information(bytes),
+        Op::ModeSelect(_) => Reading::Unread,
+        Op::SendCueSheet => Reading::Unread,
+        Op::Write { track: _, first: _, count: _ } => Reading::Unread,
+        Op::SynchronizeCache(_) => Reading::Unread,
+        Op::CloseTrack(_) => Reading::Unread,
+        Op::CloseSession => Reading::Unread,
+    }
+}
+
+// Reads a reply to a command.
+pub(crate) fn read_reply(op: Op, good: bool, bytes: &[u8]) -> Reading
+    ensures { λ r. ⌜ r ≡ reading op (replyOf good (now (bytes .entry))) ⌝ }
+{
+    if good {
+        read_good(op, bytes)
+    } else {
+        read_failed(bytes)
+    }
 }

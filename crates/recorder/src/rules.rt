@@ -1,21 +1,44 @@
-// The judgement of a reply to READ TRACK INFORMATION: the numbers 5 to 10.
+// The judgement of a reply: what the rules look at, and the numbers 4 to 10 and 12.
 ghost use mathlib.Core.Path.{_≡_};
-ghost use Prim.Native.Nat.{ℕ, _<_, _^_};
-ghost use lib.IntN.{pos};
-ghost use Rattle.mmc.specs.Refusals.{faultIn};
+ghost use mathlib.Core.List.{[], _∷_};
+ghost use Prim.Native.Nat.{_≤_, _<_, _^_};
 ghost use Rattle.mmc.specs.Times.{framesTo};
-ghost use Rattle.recorder.specs.Rules.{otherProfile, unsuitable, unusable, mixedOrKept, shortTrack, fits, openingFault, laterFault, trackFault};
-use crate::job::Progress;
+ghost use Rattle.recorder.specs.Replies.{Unsigned, UnsignedIn, ForTrack};
+ghost use Rattle.recorder.specs.Script.{trackIn};
+ghost use Rattle.recorder.specs.Exchanges.{see, startAt};
+ghost use Rattle.recorder.specs.Rules.{otherProfile, unsuitable, unusable, mixedOrKept, fits, test, tested, trackTests, judgementIn, judge};
+use crate::replies::Reading;
+use crate::replies::Sense;
 use crate::replies::TrackInformation;
+use crate::script::Op;
+use crate::script::is_stepwise;
+use crate::script::past_op;
+use crate::script::track_of;
 use mmc::order::Method;
 use mmc::order::Order;
 use mmc::order::all_long;
 use mmc::order::blocks_after;
 use mmc::order::one_kind;
-use mmc::refusals::Check;
 use mmc::refusals::Refusal;
 use mmc::units::BlockAddress;
 use mmc::units::BlockSum;
+use mmc::units::FrameCount;
+
+// What the rules look at in the replies so far: the profile, the disc status, and the frames to where the next block goes (address
+// plus 150): the address of the latest READ TRACK INFORMATION in a track at once, or the end of the last WRITE.
+pub struct Seen {
+    pub profile: u16,
+    pub status: u8,
+    pub at: FrameCount,
+}
+
+// How a reply is judged: the same command again, onward, or a stop.
+pub(crate) enum Verdict {
+    Again,
+    Onward,
+    Refused(Refusal),
+    Failed(Sense),
+}
 
 // The frames before address 0, and the frames to the last address of a lead-out.
 const LEAD_FRAMES: u64 = 150;
@@ -23,8 +46,8 @@ const LEAD_FRAMES: u64 = 150;
 const LAST_FRAME: u64 = 449999;
 
 // The frames to a Next Writable Address.
-pub(crate) fn frames_to(a: BlockAddress) -> u64
-    requires { ⌜ ((n : ℕ) × ((a .0 ≡ pos n) × (n < 2 ^ 32))) ⌝ }
+fn frames_to(a: BlockAddress) -> u64
+    requires { ⌜ Unsigned a ⌝ }
     ensures { λ r. ⌜ (r ≡ framesTo a .0) × (r < 2 ^ 33) ⌝ }
 {
     (a.0 + 150) as u64
@@ -51,24 +74,20 @@ fn unsuitable_status(m: Method, status: u8) -> bool
 }
 
 // 7: Damage, or in a track at once no address, or one before the end of the track before.
-fn unusable_track(m: Method, end: u64, start: u64, i: TrackInformation) -> bool
+fn unusable_track(m: Method, end: FrameCount, start: u64, i: TrackInformation) -> bool
     requires { ⌜ start ≡ framesTo (i .address) .0 ⌝ }
     ensures { λ r. ⌜ r ≡ unusable m end i ⌝ }
 {
-    let damaged = i.damaged;
-    let addressed = i.addressed;
-    match m {
-        Method::Tao => {
-            if damaged {
-                return true;
-            }
-            if !addressed {
-                return true;
-            }
-            start < end
-        }
-        Method::Sao => damaged,
+    if i.damaged {
+        return true;
     }
+    if !is_stepwise(m) {
+        return false;
+    }
+    if !i.addressed {
+        return true;
+    }
+    start < end.0 as u64
 }
 
 // 8: a session at once of mixed kinds, or to be kept appendable.
@@ -87,13 +106,6 @@ fn mixed_or_kept(o: Order) -> bool
     }
 }
 
-// 9: a track has too few blocks.
-fn short_track(o: Order) -> bool
-    ensures { λ r. ⌜ r ≡ shortTrack o ⌝ }
-{
-    !all_long(o)
-}
-
 // 10 where not: the blocks still to be recorded are free, and the lead-out has a time.
 fn it_fits(m: Method, blocks: BlockSum, start: u64, i: TrackInformation) -> bool
     requires { ⌜ (start ≡ framesTo (i .address) .0) × (start < 2 ^ 33) ⌝ }
@@ -103,66 +115,121 @@ fn it_fits(m: Method, blocks: BlockSum, start: u64, i: TrackInformation) -> bool
     if (i.free.0 as u64) < sum {
         return false;
     }
+    if is_stepwise(m) {
+        start + sum <= LAST_FRAME
+    } else {
+        sum + LEAD_FRAMES <= LAST_FRAME
+    }
+}
+
+// The first of the numbers 5 to 10 that applies.
+fn first_of(profile: bool, status: bool, track: bool, order: bool, short: bool, full: bool) -> Verdict
+    ensures { λ r. ⌜ judgementIn r ≡ tested (test profile 5 ∷ test status 6 ∷ test track 7 ∷ test order 8 ∷ test short 9 ∷ test full 10 ∷ []) ⌝ }
+{
+    if profile {
+        return Verdict::Refused(Refusal::Profile);
+    }
+    if status {
+        return Verdict::Refused(Refusal::DiscStatus);
+    }
+    if track {
+        return Verdict::Refused(Refusal::TrackInformation);
+    }
+    if order {
+        return Verdict::Refused(Refusal::MixedOrKept);
+    }
+    if short {
+        return Verdict::Refused(Refusal::ShortTrack);
+    }
+    if full {
+        return Verdict::Refused(Refusal::NoRoom);
+    }
+    Verdict::Onward
+}
+
+// Judges READ TRACK INFORMATION before a track: that of the first judges 5 to 10, a later one 7 and 10.
+fn judge_track(o: Order, track: u16, v: Seen, i: TrackInformation) -> Verdict
+    requires { ⌜ 1 ≤ track ⌝ }
+    requires { ⌜ Unsigned (i .address) ⌝ }
+    ensures { λ r. ⌜ judgementIn r ≡ tested (trackTests o track v i) ⌝ }
+{
+    let m = o.method;
+    let at = v.at;
+    let address = i.address;
+    let start = frames_to(address);
+    let unusable = unusable_track(m, at, start, i);
+    let full = !it_fits(m, blocks_after(o, track as usize - 1), start, i);
+    if track != 1 {
+        return first_of(false, false, unusable, false, false, full);
+    }
+    let profile = other_profile(v.profile);
+    let status = unsuitable_status(m, v.status);
+    let order = mixed_or_kept(o);
+    let short = !all_long(o);
+    first_of(profile, status, unusable, order, short, full)
+}
+
+// Judges a reply to an operation.
+pub(crate) fn judge_reply(o: Order, op: Op, v: Seen, reading: Reading) -> Verdict
+    requires { ⌜ UnsignedIn reading ⌝ }
+    requires { ⌜ ForTrack (trackIn op) reading ⌝ }
+    ensures { λ r. ⌜ judgementIn r ≡ judge o v op reading ⌝ }
+{
+    let track = track_of(op);
+    match reading {
+        Reading::Busy => Verdict::Again,
+        Reading::Failed(x) => Verdict::Failed(x),
+        Reading::Malformed => Verdict::Refused(Refusal::ReplyForm),
+        Reading::Profile(_) => Verdict::Onward,
+        Reading::Status(_) => Verdict::Onward,
+        Reading::Information(i) => judge_track(o, track, v, i),
+        Reading::Unread => Verdict::Onward,
+    }
+}
+
+// Where the next block goes once READ TRACK INFORMATION has passed.
+fn start_at(m: Method, at: FrameCount, i: TrackInformation) -> FrameCount
+    requires { ⌜ Unsigned (i .address) ⌝ }
+    requires { ⌜ startAt m at i .0 < 2 ^ 32 ⌝ }
+    ensures { λ r. ⌜ r ≡ startAt m at i ⌝ }
+{
+    let address = i.address;
     match m {
-        Method::Tao => start + sum <= LAST_FRAME,
-        Method::Sao => sum + LEAD_FRAMES <= LAST_FRAME,
+        Method::Tao => FrameCount(frames_to(address) as u32),
+        Method::Sao => at,
     }
 }
 
-// Judges the reply that opens a job: 5 to 10.
-fn opening_fault(o: Order, profile: u16, status: u8, start: u64, i: TrackInformation) -> Check
-    requires { ⌜ (start ≡ framesTo (i .address) .0) × (start < 2 ^ 33) ⌝ }
-    ensures { λ r. ⌜ faultIn r ≡ openingFault o profile status i ⌝ }
+// What is seen after a reply to an operation.
+pub(crate) fn see_reply(m: Method, op: Op, v: Seen, reading: Reading) -> Seen
+    requires { ⌜ see m op reading v .at .0 < 2 ^ 32 ⌝ }
+    requires { ⌜ UnsignedIn reading ⌝ }
+    ensures { λ r. ⌜ r ≡ see m op reading v ⌝ }
 {
-    let m = o.method;
-    if other_profile(profile) {
-        return Check::Refused(Refusal::Profile);
-    }
-    if unsuitable_status(m, status) {
-        return Check::Refused(Refusal::DiscStatus);
-    }
-    if unusable_track(m, 0, start, i) {
-        return Check::Refused(Refusal::TrackInformation);
-    }
-    if mixed_or_kept(o) {
-        return Check::Refused(Refusal::MixedOrKept);
-    }
-    if short_track(o) {
-        return Check::Refused(Refusal::ShortTrack);
-    }
-    if it_fits(m, blocks_after(o, 0), start, i) {
-        Check::Passed
-    } else {
-        Check::Refused(Refusal::NoRoom)
-    }
-}
-
-// Judges a fresh reply after so many tracks, the last of which ends at a frame: 7 and 10.
-fn later_fault(o: Order, tracks: u16, end: u64, start: u64, i: TrackInformation) -> Check
-    requires { ⌜ (start ≡ framesTo (i .address) .0) × (start < 2 ^ 33) ⌝ }
-    ensures { λ r. ⌜ faultIn r ≡ laterFault o tracks end i ⌝ }
-{
-    let m = o.method;
-    if unusable_track(m, end, start, i) {
-        return Check::Refused(Refusal::TrackInformation);
-    }
-    if it_fits(m, blocks_after(o, tracks as usize), start, i) {
-        Check::Passed
-    } else {
-        Check::Refused(Refusal::NoRoom)
-    }
-}
-
-// Judges a reply: that of the first track opens the job.
-pub(crate) fn track_fault(o: Order, s: Progress, start: u64, i: TrackInformation) -> Check
-    requires { ⌜ (start ≡ framesTo (i .address) .0) × (start < 2 ^ 33) ⌝ }
-    ensures { λ r. ⌜ faultIn r ≡ trackFault o (s .track .0) (s .profile) (s .status) (s .at .0) i ⌝ }
-{
-    let tracks = s.track.0;
-    let end = s.at.0;
-    if tracks == 0 {
-        opening_fault(o, s.profile, s.status, start, i)
-    } else {
-        later_fault(o, tracks, end as u64, start, i)
+    let at = v.at;
+    match reading {
+        Reading::Busy => v,
+        Reading::Failed(_) => v,
+        Reading::Malformed => v,
+        Reading::Profile(p) => Seen {
+            profile: p,
+            status: v.status,
+            at: at,
+        },
+        Reading::Status(q) => Seen {
+            profile: v.profile,
+            status: q,
+            at: at,
+        },
+        Reading::Information(i) => Seen {
+            profile: v.profile,
+            status: v.status,
+            at: start_at(m, at, i),
+        },
+        Reading::Unread => Seen {
+            profile: v.profile,
+            status: v.status,
+            at: past_op(op, at),
+        },
     }
 }
