@@ -1,0 +1,11 @@
+pub mod Lists
+pub mod Turns
+pub mod Plans
+pub mod Scripts
+pub mod Rulings
+pub mod Apart
+pub mod Goods
+pub mod Places
+pub mod Standing
+pub mod Moves
+pub mod Makes

@@ -1,0 +1,113 @@
+-- What the rules make of every order and every list of replies, no job in sight: parts 2, 4 and 5.
+use mathlib.Core.Path.{_≡_, refl, sym, ap, subst, _∙_}
+use mathlib.Core.Logic.{_↔_}
+use mathlib.Core.Bool.{Bool}
+use mathlib.Core.List.{List, [], _∷_, _++_, append-nil}
+use Prim.Native.Nat.{ℕ}
+use native.Mathlib.Omega.{arith}
+use lib.ListN.{length, length-append}
+use Rattle.mmc.specs.Refusals.{pass}
+use Rattle.mmc.specs.declared.order.Order.{Order}
+use Rattle.recorder.specs.declared.script.Op.{Op}
+use Rattle.recorder.specs.Answers.{Why, Ruling, done, stop}
+use Rattle.recorder.specs.Script.{gather, Block, ordered, blocksIn, closingIn, closings}
+use Rattle.recorder.specs.Exchanges.{Exchange, recorded, closed}
+use Rattle.recorder.specs.Rules.{Judgement, move, judged, left, Found, none, found, orElse, refusedBy, firstRefused, answerTo, ruled}
+use Rattle.recorder.proofs.Lists.{clash, none-found}
+use Rattle.recorder.proofs.Turns.{made, Played, nothing, then, Turn, repeats, refuses, works, turn}
+use Rattle.recorder.proofs.Plans.{kept, blocks-ignore, closings-ignore, AllUnclosed, left-unclosed}
+use Rattle.recorder.proofs.Scripts.{script-blocks, script-unclosed}
+
+-- one exchange more: it is the first refused if none was before
+pub refused-next : (o : Order) (es : List Exchange) (e : Exchange) (f : Found) → firstRefused o es ≡ none → refusedBy (judged o es e) ≡ f → firstRefused o (e ∷ es) ≡ f
+refused-next o es e f u q = ap (λ (x : Found). orElse x (refusedBy (judged o es e))) u ∙ q
+
+-- and back: it wasn't
+pub unrefused-last : (o : Order) (es : List Exchange) (e : Exchange) → firstRefused o es ≡ none → firstRefused o (e ∷ es) ≡ none → refusedBy (judged o es e) ≡ none
+unrefused-last o es e u v = sym (refused-next o es e (refusedBy (judged o es e)) u refl) ∙ v
+
+-- ---- a refused operation is still there
+
+abbrev Some : List Op → Type 0
+Some [] = ⊥
+Some (x ∷ l) = Unit {0}
+
+held-turn : (x : Op) (l : List Op) (b : Bool) (j : Judgement) (w : Why) → Turn x b j → refusedBy j ≡ found w → Some (move j (x ∷ l))
+held-turn x l b j w repeats e = tt
+held-turn x l b j w (refuses q) e = tt
+held-turn x l b j w works e = absurd (none-found w e)
+
+held : (o : Order) (es : List Exchange) (w : Why) → Played o es → firstRefused o es ≡ found w → Some (left o es)
+held o es w nothing f = absurd (none-found w f)
+held o es w (then {es = before} {x = x} {l = l} p u e y) f =
+    subst (λ (m : List Op). Some (move (judged o before (made o before x y)) m)) (sym e)
+    (held-turn x l (y .good) _ w (turn o before x y) (sym (refused-next o before (made o before x y) (refusedBy (judged o before (made o before x y))) u refl) ∙ f))
+
+-- where nothing is left, nothing was refused
+left-unrefused : (o : Order) (es : List Exchange) → Played o es → left o es ≡ [] → firstRefused o es ≡ none
+left-unrefused o es p e = go (firstRefused o es) refl
+  where
+    go : (f : Found) → firstRefused o es ≡ f → f ≡ none
+    go none q = refl
+    go (found w) q = absurd (subst Some e (held o es w p q))
+
+-- ---- the answer
+
+is-done : (o : Order) (es : List Exchange) (f : Found) (l : List Op) → answerTo o es f l ≡ done → (f ≡ none) × (l ≡ [])
+is-done o es (found w) l e = clash (cc)
+is-done o es none [] e = (refl, refl)
+is-done o es none (x ∷ l) e = clash (cc)
+
+pub done-left : (o : Order) (es : List Exchange) → ruled (pass o) es ≡ done → left o es ≡ []
+done-left o es e = is-done o es (firstRefused o es) (left o es) e .1
+
+-- by what is left where none is refused, and at a refusal
+pub ruled-at : (o : Order) (es : List Exchange) (l : List Op) → firstRefused o es ≡ none → left o es ≡ l → ruled (pass o) es ≡ answerTo o es none l
+ruled-at o es l u e = ap (λ (f : Found). answerTo o es f (left o es)) u ∙ ap (answerTo o es none) e
+
+pub ruled-stop : (o : Order) (es : List Exchange) (w : Why) → firstRefused o es ≡ found w → ruled (pass o) es ≡ stop w
+ruled-stop o es w u = ap (λ (f : Found). answerTo o es f (left o es)) u
+
+-- ---- part 2
+
+blocks-kept : (o : Order) (es : List Exchange) → Played o es → recorded es ++ gather blocksIn (left o es) ≡ ordered o
+blocks-kept o es p = kept blocksIn blocks-ignore o es p ∙ script-blocks o
+
+pub rule-order : (o : Order) (es : List Exchange) → Played o es → (rest : List Block) × (recorded es ++ rest ≡ ordered o)
+rule-order o es p = (gather blocksIn (left o es), blocks-kept o es p)
+
+-- ---- part 4
+
+nothing-left : (l : List Op) → AllUnclosed l → length (gather closingIn l) ≡ 0 → l ≡ []
+nothing-left [] z e = refl
+nothing-left (x ∷ l) z e = let w = z .0 in absurd (omega arith)
+
+pub rule-done : (o : Order) (es : List Exchange) → Played o es → (ruled (pass o) es ≡ done) ↔ ((recorded es ≡ ordered o) × (closed es ≡ closings o))
+rule-done o es p = (there, λ w. back (w .1))
+  where
+    closings-kept : closed es ++ gather closingIn (left o es) ≡ closings o
+    closings-kept = kept closingIn closings-ignore o es p
+
+    there : ruled (pass o) es ≡ done → (recorded es ≡ ordered o) × (closed es ≡ closings o)
+    there t =
+        let e : left o es ≡ [] = done-left o es t in
+        (
+          sym (append-nil (recorded es)) ∙ ap (λ (m : List Op). recorded es ++ gather blocksIn m) (sym e) ∙ blocks-kept o es p,
+          sym (append-nil (closed es)) ∙ ap (λ (m : List Op). closed es ++ gather closingIn m) (sym e) ∙ closings-kept,
+        )
+
+    back : closed es ≡ closings o → ruled (pass o) es ≡ done
+    back c =
+        let z : length (gather closingIn (left o es)) ≡ 0 = omega (arith, ap length closings-kept, ap length c, length-append (closed es) (gather closingIn (left o es))) in
+        let e : left o es ≡ [] = nothing-left (left o es) (left-unclosed o es (script-unclosed o) p) z in
+        ruled-at o es [] (left-unrefused o es p e) e
+
+-- ---- part 5
+
+pub rule-stop : (o : Order) (es : List Exchange) (w : Why) → (ruled (pass o) es ≡ stop w) ↔ (firstRefused o es ≡ found w)
+rule-stop o es w = (λ t. go (firstRefused o es) (left o es) t, ruled-stop o es w)
+  where
+    go : (f : Found) (l : List Op) → answerTo o es f l ≡ stop w → f ≡ found w
+    go (found v) l e = ap found (cc)
+    go none [] e = clash (cc)
+    go none (x ∷ l) e = clash (cc)

@@ -1,0 +1,133 @@
+-- Laws of the script: its length, its blocks, and that each of its operations is a closing command or comes before one.
+use mathlib.Core.Path.{_≡_, refl, sym, ap, _∙_}
+use mathlib.Core.List.{List, [], _∷_, _++_}
+use Prim.Native.Nat.{ℕ, zero, suc, _+_, _-_, _*_, _≤_, _<_}
+use native.Mathlib.Omega.{arith}
+use lib.ListN.{length, getD, drop, length-append, length-take, length-drop}
+use lib.Seq.{getD-take, getD-drop, drop-drop, drop-cons}
+use Rattle.mmc.specs.Order.{mostTracks, noTrack, tracksIn, blocksOf}
+use Rattle.mmc.specs.Times.{leadFrames}
+use Rattle.mmc.specs.declared.order.Order.{Order}
+use Rattle.mmc.specs.declared.order.Track.{Track}
+use Rattle.mmc.specs.declared.order.Method.{Method}
+use Rattle.mmc.specs.declared.order.Method.the-variants.{Tao, Sao}
+use Rattle.recorder.specs.declared.script.Op.{Op}
+use Rattle.recorder.specs.declared.script.Op.the-variants.{GetConfiguration, ReadDiscInformation, ReadTrackInformation, ModeSelect, SendCueSheet, SynchronizeCache, CloseTrack, CloseSession}
+use Rattle.recorder.specs.Script.{gather, write, portion, writesFor, writes, writesFrom, beforeBy, trackBy, endBy, eachTrack, script, writesIn, expectedBy, expected, Block, blocks, blocksFrom, ordered, blocksIn, closingIn}
+use Rattle.recorder.specs.Rules.{still}
+use Rattle.recorder.specs.Job.{pieceOf}
+use Rattle.recorder.proofs.Lists.{gather-append, blocks-split}
+use Rattle.recorder.proofs.Plans.{Unclosed, AllUnclosed, all-before}
+
+-- the order with a method: its own gives it back
+abbrev pub by : Order → Method → Order
+by o m = record { method = m; keep = o .keep; protect = o .protect; count = o .count; tracks = o .tracks }
+
+-- ---- length
+
+writes-length : (t l f k : ℕ) → length (writes t l f k) ≡ k
+writes-length t l f zero = refl
+writes-length t l f (suc k) = ap suc (writes-length t l (f + portion l f) k)
+
+all-length : (t l : ℕ) (after : List Op) → length (writesFrom t l 0 ++ after) ≡ writesFor l + length after
+all-length t l after =
+    let a : length (writesFrom t l 0 ++ after) ≡ length (writesFrom t l 0) + length after = length-append (writesFrom t l 0) after in
+    let b : length (writesFrom t l 0) ≡ writesFor (l - 0) = writes-length t l 0 (writesFor (l - 0)) in
+    omega arith
+
+tao-length : (o : Order) (t : ℕ) (xs : List Track) → length (eachTrack (by o Tao) t xs) ≡ 4 * length xs + 1 + writesIn xs
+tao-length o t [] = refl
+tao-length o t (x ∷ xs) =
+    let a = all-length (suc t) (x .length .0) (SynchronizeCache (record { 0 = suc t }) ∷ CloseTrack (record { 0 = suc t }) ∷ eachTrack (by o Tao) (suc t) xs) in
+    let i = tao-length o (suc t) xs in
+    omega arith
+
+sao-length : (o : Order) (t : ℕ) (xs : List Track) → length (eachTrack (by o Sao) t xs) ≡ 1 + writesIn xs
+sao-length o t [] = refl
+sao-length o t (x ∷ xs) =
+    let a = all-length (suc t) (x .length .0) (eachTrack (by o Sao) (suc t) xs) in
+    let i = sao-length o (suc t) xs in
+    omega arith
+
+pub script-length : (o : Order) → length (tracksIn o) ≡ o .count → length (script o) ≡ expected o
+script-length o n = go (o .method)
+  where
+    go : (m : Method) → length (script (by o m)) ≡ expectedBy m (o .count) (writesIn (tracksIn o))
+    go Tao = let b = tao-length o 0 (tracksIn o) in omega arith
+    go Sao = let a = all-length 0 leadFrames (eachTrack (by o Sao) 0 (tracksIn o)) in let b = sao-length o 0 (tracksIn o) in omega arith
+
+-- ---- blocks
+
+writes-blocks : (t l f k : ℕ) → k ≡ writesFor (l - f) → gather blocksIn (writes (suc t) l f k) ≡ blocks (suc t) f (l - f)
+writes-blocks t l f zero e = let z : 0 ≡ l - f = omega arith in ap (λ (m : ℕ). blocks (suc t) f m) z
+writes-blocks t l f (suc k) e =
+    let c : ℕ = portion l f in
+    let i : gather blocksIn (writes (suc t) l (f + c) k) ≡ blocks (suc t) (f + c) (l - (f + c)) = writes-blocks t l (f + c) k (omega arith) in
+    let q : c + (l - (f + c)) ≡ l - f = omega arith in
+    ap (λ (m : List Block). blocks (suc t) f c ++ m) i ∙ sym (blocks-split (suc t) f c (l - (f + c))) ∙ ap (λ (m : ℕ). blocks (suc t) f m) q
+
+-- the pause has none
+pause-blocks : (l f k : ℕ) → gather blocksIn (writes 0 l f k) ≡ []
+pause-blocks l f zero = refl
+pause-blocks l f (suc k) = pause-blocks l (f + portion l f) k
+
+part : (xs ys : List Op) (x : List Block) → gather blocksIn xs ≡ x → gather blocksIn (xs ++ ys) ≡ x ++ gather blocksIn ys
+part xs ys x e = gather-append blocksIn xs ys ∙ ap (λ (m : List Block). m ++ gather blocksIn ys) e
+
+-- one track's blocks before the others'
+track-blocks : (t l : ℕ) (ys : List Op) (zs : List Block) → gather blocksIn ys ≡ zs → gather blocksIn (writesFrom (suc t) l 0 ++ ys) ≡ blocks (suc t) 0 l ++ zs
+track-blocks t l ys zs e =
+    let z : l - 0 ≡ l = omega arith in
+    part (writesFrom (suc t) l 0) ys _ (writes-blocks t l 0 (writesFor (l - 0)) refl ∙ ap (λ (m : ℕ). blocks (suc t) 0 m) z) ∙
+    ap (λ (m : List Block). blocks (suc t) 0 l ++ m) e
+
+each-blocks : (m : Method) (o : Order) (t : ℕ) (xs : List Track) → gather blocksIn (eachTrack (by o m) t xs) ≡ blocksFrom t xs
+each-blocks Tao o t [] = refl
+each-blocks Sao o t [] = refl
+each-blocks Tao o t (x ∷ xs) = track-blocks t (x .length .0) _ _ (each-blocks Tao o (suc t) xs)
+each-blocks Sao o t (x ∷ xs) = track-blocks t (x .length .0) _ _ (each-blocks Sao o (suc t) xs)
+
+pub script-blocks : (o : Order) → gather blocksIn (script o) ≡ ordered o
+script-blocks o = go (o .method)
+  where
+    go : (m : Method) → gather blocksIn (script (by o m)) ≡ ordered o
+    go Tao = each-blocks Tao o 0 (tracksIn o)
+    go Sao = part (writesFrom 0 leadFrames 0) (eachTrack (by o Sao) 0 (tracksIn o)) [] (pause-blocks leadFrames 0 (writesFor (leadFrames - 0))) ∙ each-blocks Sao o 0 (tracksIn o)
+
+-- ---- closing commands
+
+one : 1 ≤ 1
+one = omega arith
+
+record Closes (l : List Op) : Type 0 where
+  some : Unclosed l
+  all : AllUnclosed l
+
+closes-before : (xs l : List Op) → Closes l → Closes (xs ++ l)
+closes-before [] l c = c
+closes-before (x ∷ xs) l c = let a = all-before (x ∷ xs) l (c .some) (c .all) in record { some = a .0; all = a }
+
+-- 35h and 5Bh function 1
+closes-track : (t : ℕ) (l : List Op) → Closes l → Closes (SynchronizeCache (record { 0 = t }) ∷ CloseTrack (record { 0 = t }) ∷ l)
+closes-track t l c =
+    let s = c .some in
+    let a : Unclosed (CloseTrack (record { 0 = t }) ∷ l) = omega arith in
+    let b : Unclosed (SynchronizeCache (record { 0 = t }) ∷ CloseTrack (record { 0 = t }) ∷ l) = omega arith in
+    record { some = b; all = (b, (a, c .all)) }
+
+each-closes : (m : Method) (o : Order) (t : ℕ) (xs : List Track) → Closes (eachTrack (by o m) t xs)
+each-closes Tao o t [] = record { some = one; all = (one, tt) }
+each-closes Sao o t [] = record { some = one; all = (one, tt) }
+each-closes Tao o t (x ∷ xs) =
+    closes-before (ReadTrackInformation (record { 0 = suc t }) ∷ ModeSelect (record { 0 = suc t }) ∷ writesFrom (suc t) (x .length .0) 0) _ (closes-track (suc t) _ (each-closes Tao o (suc t) xs))
+each-closes Sao o t (x ∷ xs) = closes-before (writesFrom (suc t) (x .length .0) 0) _ (each-closes Sao o (suc t) xs)
+
+pub script-unclosed : (o : Order) → AllUnclosed (script o)
+script-unclosed o = go (o .method)
+  where
+    go : (m : Method) → AllUnclosed (script (by o m))
+    go Tao = closes-before (GetConfiguration ∷ ReadDiscInformation ∷ []) _ (each-closes Tao o 0 (tracksIn o)) .all
+    go Sao =
+        closes-before
+            (GetConfiguration ∷ ReadDiscInformation ∷ ReadTrackInformation (record { 0 = 1 }) ∷ ModeSelect (record { 0 = 1 }) ∷ SendCueSheet ∷ writesFrom 0 leadFrames 0)
+            _ (each-closes Sao o 0 (tracksIn o)) .all

@@ -1,0 +1,210 @@
+-- How an operation that is due stands to what was seen and to what the latest 52h named, and that the next one stands so too.
+use mathlib.Core.Path.{_≡_, refl, sym, ap, subst, _∙_}
+use mathlib.Core.Bool.{Bool, true, false, not}
+use mathlib.Core.List.{List, [], _∷_}
+use Prim.Native.Nat.{ℕ, zero, suc, _+_, _-_, _≤_, _<_}
+use native.Mathlib.Omega.{arith}
+use borrow.Author.Tests.{ltb-true, ltb-false, leb-true, not-false, eq-eqb}
+use lib.Dec.{ltb, leb, eqb}
+use lib.ListN.{length, getD, drop}
+use lib.Seq.{drop-cons}
+use Rattle.mmc.specs.Bytes.{if}
+use Rattle.mmc.specs.Order.{leastBlocks, noTrack, tracksIn, allLong, blocksOf}
+use Rattle.mmc.specs.Times.{lastAddress, leadFrames, framesTo}
+use Rattle.mmc.specs.declared.units.BlockCount.{BlockCount}
+use Rattle.mmc.specs.declared.units.TrackNumber.{TrackNumber}
+use Rattle.mmc.specs.declared.order.Order.{Order}
+use Rattle.mmc.specs.declared.order.Track.{Track}
+use Rattle.mmc.specs.declared.order.Method.{Method}
+use Rattle.mmc.specs.declared.order.Method.the-variants.{Tao, Sao}
+use Rattle.recorder.specs.declared.script.Op.{Op}
+use Rattle.recorder.specs.declared.script.Op.the-variants.{GetConfiguration, ReadDiscInformation, ReadTrackInformation, ModeSelect, SendCueSheet, Write, SynchronizeCache, CloseTrack, CloseSession}
+use Rattle.recorder.specs.declared.script.Following.{Following}
+use Rattle.recorder.specs.declared.script.Following.the-variants.{Next as Then, Nothing}
+use Rattle.recorder.specs.declared.replies.TrackInformation.{TrackInformation}
+use Rattle.recorder.specs.declared.replies.Reading.{Reading}
+use Rattle.recorder.specs.declared.replies.Reading.the-variants.{Information, Unread}
+use Rattle.recorder.specs.declared.rules.Seen.{Seen}
+use Rattle.recorder.specs.Script.{write, portion}
+use Rattle.recorder.specs.Exchanges.{Named, see, name}
+use Rattle.recorder.specs.Rules.{mixedOrKept, still, leadOut, lastFrame, fits, trackTests, judge, none, refusedBy}
+use Rattle.recorder.specs.Job.{pieceEnded, beforeBlock, afterCloseTrack, pieceOf, afterIn}
+use Rattle.recorder.proofs.Lists.{none-found, false-true, both, passed-clear}
+use Rattle.recorder.proofs.Turns.{isAsking, Reads, busy, failed, malformed, profile, status, information, unread}
+use Rattle.recorder.proofs.Scripts.{by}
+use Rattle.recorder.proofs.Apart.{Passed, passed}
+use Rattle.recorder.proofs.Places.{Sized, track-length, GoesOn}
+
+-- ---- the blocks of the tracks after the first t
+
+abbrev pub blocksAfter : Order → ℕ → ℕ
+blocksAfter o t = blocksOf (drop t (tracksIn o))
+
+pub blocks-less : (o : Order) (t : ℕ) → t < length (tracksIn o) → blocksAfter o t ≡ pieceOf o (suc t) + blocksAfter o (suc t)
+unfolding blocksOf
+blocks-less o t h = ap blocksOf (drop-cons (tracksIn o) t noTrack h) ∙ ap (λ (l : ℕ). l + blocksAfter o (suc t)) (track-length o t h)
+
+long-in : (xs : List Track) (t : ℕ) → allLong xs ≡ true → t < length xs → leastBlocks ≤ getD xs t noTrack .length .0
+unfolding allLong
+long-in [] t e h = absurd (omega arith)
+long-in (x ∷ xs) zero e h = leb-true _ _ (both (leb leastBlocks (x .length .0)) (allLong xs) e .0)
+long-in (x ∷ xs) (suc t) e h = long-in xs t (both (leb leastBlocks (x .length .0)) (allLong xs) e .1) (omega arith)
+
+-- no track is empty
+pub long-at : (o : Order) (t : ℕ) → allLong (tracksIn o) ≡ true → t < length (tracksIn o) → 0 < pieceOf o (suc t)
+long-at o t e h =
+    let l = long-in (tracksIn o) t e h in
+    let a = track-length o t h in
+    omega arith
+
+-- ---- how an operation stands
+
+pub record InOrder (o : Order) (t : ℕ) : Type 0 where
+  pub one : 1 ≤ t
+  pub few : t ≤ o .count
+
+-- TAO, in a track whose 52h has passed
+pub record InTrack (o : Order) (t : ℕ) (n : Named) : Type 0 where
+  pub in-order : InOrder o t
+  pub of-track : t ≡ n .track
+  pub limit : n .start + pieceOf o t ≤ lastFrame
+  pub room : pieceOf o t ≤ n .free
+
+-- SAO, once 8, 9 and 10 have passed
+pub record InSession (o : Order) : Type 0 where
+  pub alike : mixedOrKept Sao o ≡ false
+  pub long : allLong (tracksIn o) ≡ true
+  pub limit : blocksOf (tracksIn o) ≤ lastAddress
+
+-- c blocks from the block f of l on are a WRITE
+pub record IsWrite (l f c : ℕ) : Type 0 where
+  pub within : f < l
+  pub part : c ≡ portion l f
+
+-- SAO, before the block f of a piece: what is left of it and what comes after it fill the session
+pub record InPiece (o : Order) (t f : ℕ) (v : Seen) : Type 0 where
+  pub few : t ≤ o .count
+  pub fills : v .at .0 + (pieceOf o t - f) + blocksAfter o t ≡ leadFrames + blocksOf (tracksIn o)
+
+abbrev pub Standing : Method → Order → Op → Seen → Named → Type 0
+Standing m o GetConfiguration v n = v .at .0 ≡ 0
+Standing m o ReadDiscInformation v n = v .at .0 ≡ 0
+Standing Tao o (ReadTrackInformation t) v n = InOrder o (t .0)
+Standing Sao o (ReadTrackInformation t) v n = (t .0 ≡ 1) × (v .at .0 ≡ 0)
+Standing Tao o (ModeSelect t) v n = InTrack o (t .0) n × (v .at .0 ≡ n .start)
+Standing Sao o (ModeSelect t) v n = InSession o × ((t .0 ≡ 1) × (v .at .0 ≡ 0))
+Standing Tao o SendCueSheet v n = ⊥
+Standing Sao o SendCueSheet v n = InSession o × (v .at .0 ≡ 0)
+Standing Tao o (Write t f c) v n = InTrack o (t .0) n × (IsWrite (pieceOf o (t .0)) (f .0) (c .0) × (v .at .0 ≡ n .start + f .0))
+Standing Sao o (Write t f c) v n = InSession o × (IsWrite (pieceOf o (t .0)) (f .0) (c .0) × InPiece o (t .0) (f .0) v)
+Standing m o (SynchronizeCache t) v n = InOrder o (t .0)
+Standing Tao o (CloseTrack t) v n = InOrder o (t .0)
+Standing Sao o (CloseTrack t) v n = ⊥
+Standing Tao o CloseSession v n = Unit {0}
+Standing Sao o CloseSession v n = ⊥
+
+abbrev pub StandingThen : Method → Order → Following → Seen → Named → Type 0
+StandingThen m o (Then x) v n = Standing m o x v n
+StandingThen m o Nothing v n = Unit {0}
+
+-- ---- within a piece
+
+in-track : (o : Order) (t f : ℕ) (v : Seen) (n : Named) → InTrack (by o Tao) t n → v .at .0 ≡ n .start + f → Standing Tao (by o Tao) (beforeBlock Tao (o .count) (pieceOf (by o Tao) t) (pieceOf (by o Tao) (suc t)) t f) v n
+unfolding beforeBlock pieceEnded
+in-track o t f v n i e = go (ltb f (pieceOf (by o Tao) t)) refl
+  where
+    go : (b : Bool) → ltb f (pieceOf (by o Tao) t) ≡ b → Standing Tao (by o Tao) (if b (write t f (portion (pieceOf (by o Tao) t) f)) (SynchronizeCache (record { 0 = t }))) v n
+    go true q = (i, (record { within = ltb-true _ _ q; part = refl }, e))
+    go false q = i .in-order
+
+in-session : (o : Order) (t f : ℕ) (v : Seen) (n : Named) → Sized o → InSession (by o Sao) → InPiece (by o Sao) t f v → Standing Sao (by o Sao) (beforeBlock Sao (o .count) (pieceOf (by o Sao) t) (pieceOf (by o Sao) (suc t)) t f) v n
+unfolding beforeBlock pieceEnded
+in-session o t f v n z i p = go (ltb f (pieceOf (by o Sao) t)) refl
+  where
+    over : pieceOf (by o Sao) t ≤ f → (b : Bool) → ltb t (o .count) ≡ b → Standing Sao (by o Sao) (if b (write (suc t) 0 (portion (pieceOf (by o Sao) (suc t)) 0)) (SynchronizeCache (record { 0 = t }))) v n
+    over g true q =
+        let h : t < o .count = ltb-true _ _ q in
+        let a = z .all in
+        let k : t < length (tracksIn o) = omega arith in
+        let l = long-at (by o Sao) t (i .long) k in
+        let y = blocks-less (by o Sao) t k in
+        let x = p .fills in
+        (i, (record { within = l; part = refl }, record { few = h; fills = omega arith }))
+    over g false q =
+        let h : o .count ≤ t = ltb-false _ _ q in
+        let s = z .some in
+        record { one = omega arith; few = p .few }
+
+    go : (b : Bool) → ltb f (pieceOf (by o Sao) t) ≡ b → Standing Sao (by o Sao) (if b (write t f (portion (pieceOf (by o Sao) t) f)) (if (ltb t (o .count)) (write (suc t) 0 (portion (pieceOf (by o Sao) (suc t)) 0)) (SynchronizeCache (record { 0 = t })))) v n
+    go true q = (i, (record { within = ltb-true _ _ q; part = refl }, p))
+    go false q = over (ltb-false _ _ q) (ltb t (o .count)) refl
+
+-- ---- after a 52h that passed
+
+limits : (m : Method) (s : ℕ) (i : TrackInformation) → not (fits m s i) ≡ false → (s ≤ i .free .0) × (leadOut m s i ≤ lastFrame)
+unfolding fits
+limits m s i e = let p = both (leb s (i .free .0)) (leb (leadOut m s i) lastFrame) (not-false _ e) in (leb-true _ _ (p .0), leb-true _ _ (p .1))
+
+informed-tao : (o : Order) (t : ℕ) (v : Seen) (i : TrackInformation) → Sized o → InOrder (by o Tao) t → Passed (by o Tao) t v i → InTrack (by o Tao) t (record { track = t; start = framesTo (i .address) .0; free = i .free .0 })
+informed-tao o zero v i z r p = let h = r .one in absurd (omega arith)
+informed-tao o (suc t) v i z r p =
+    let w = limits Tao (still (by o Tao) (suc t)) i (p .fitting) in
+    let e : still (by o Tao) (suc t) ≡ blocksAfter (by o Tao) t = let k : suc t - 1 ≡ t = omega arith in ap (blocksAfter o) k in
+    let h = r .few in
+    let a = z .all in
+    let y = blocks-less (by o Tao) t (omega arith) in
+    record { in-order = r; of-track = refl; limit = omega arith; room = omega arith }
+
+informed-sao : (o : Order) (v : Seen) (i : TrackInformation) → Passed (by o Sao) 1 v i → InSession (by o Sao)
+informed-sao o v i p =
+    let c = p .opening refl in
+    let w = limits Sao (blocksAfter (by o Sao) 0) i (p .fitting) in
+    record { alike = c .1 .1 .1 .0; long = not-false _ (c .1 .1 .1 .1 .0); limit = omega arith }
+
+-- ---- the next operation
+
+after-closed : (o : Order) (t : ℕ) (v : Seen) (n : Named) → Standing Tao (by o Tao) (afterCloseTrack (o .count) t) v n
+unfolding afterCloseTrack
+after-closed o t v n = go (ltb t (o .count)) refl
+  where
+    go : (b : Bool) → ltb t (o .count) ≡ b → Standing Tao (by o Tao) (if b (ReadTrackInformation (record { 0 = suc t })) CloseSession) v n
+    go true q = record { one = omega arith; few = ltb-true _ _ q }
+    go false q = tt
+
+first-track : (m : Method) (o : Order) (v : Seen) (n : Named) → Sized o → v .at .0 ≡ 0 → Standing m (by o m) (ReadTrackInformation (record { 0 = 1 })) v n
+first-track Tao o v n z s = record { one = omega arith; few = z .some }
+first-track Sao o v n z s = (refl, s)
+
+-- within the tracks: the reply is not read
+stood-on : (m : Method) (o : Order) (x : Op) (v : Seen) (n : Named) → Sized o → Standing m (by o m) x v n → isAsking x ≡ false → StandingThen m (by o m) (afterIn (by o m) x) (see m x Unread v) n
+stood-on m o GetConfiguration v n z s q = absurd (false-true (sym q))
+stood-on m o ReadDiscInformation v n z s q = absurd (false-true (sym q))
+stood-on m o (ReadTrackInformation t) v n z s q = absurd (false-true (sym q))
+stood-on Tao o (ModeSelect t) v n z s q = let e = s .1 in in-track o (t .0) 0 v n (s .0) (omega arith)
+stood-on Sao o (ModeSelect t) v n z s q = (s .0, s .1 .1)
+stood-on Tao o SendCueSheet v n z s q = absurd s
+stood-on Sao o SendCueSheet v n z s q = let e = s .1 in in-session o 0 0 v n z (s .0) (record { few = omega arith; fills = omega arith })
+stood-on Tao o (Write t f c) v n z s q = let e = s .1 .1 in in-track o (t .0) (f .0 + c .0) (see Tao (Write t f c) Unread v) n (s .0) (omega arith)
+stood-on Sao o (Write t f c) v n z s q =
+    let w = s .1 .0 .within in
+    let p = s .1 .0 .part in
+    let x = s .1 .1 .fills in
+    in-session o (t .0) (f .0 + c .0) (see Sao (Write t f c) Unread v) n z (s .0) (record { few = s .1 .1 .few; fills = omega arith })
+stood-on Tao o (SynchronizeCache t) v n z s q = s
+stood-on Sao o (SynchronizeCache t) v n z s q = tt
+stood-on Tao o (CloseTrack t) v n z s q = after-closed o (t .0) v n
+stood-on Sao o (CloseTrack t) v n z s q = absurd s
+stood-on m o CloseSession v n z s q = tt
+
+stood-by : (m : Method) (o : Order) (x : Op) (r : Reading) (v : Seen) (n : Named) → Sized o → Standing m (by o m) x v n → Reads x true r → refusedBy (judge (by o m) v x r) ≡ none → StandingThen m (by o m) (afterIn (by o m) x) (see m x r v) (name x r n)
+stood-by m o x r v n z s (malformed a) j = absurd (none-found _ (sym j))
+stood-by m o x r v n z s profile j = s
+stood-by m o x r v n z s status j = first-track m o _ n z s
+stood-by Tao o x r v n z s (information {t = t} {i = i}) j = (informed-tao o (t .0) v i z s (passed (by o Tao) (t .0) v i (passed-clear (trackTests (by o Tao) (t .0) v i) j)), refl)
+stood-by Sao o x r v n z s (information {t = t} {i = i}) j =
+    (informed-sao o v i (subst (λ (k : ℕ). Passed (by o Sao) k v i) (s .0) (passed (by o Sao) (t .0) v i (passed-clear (trackTests (by o Sao) (t .0) v i) j))), s)
+stood-by m o x r v n z s (unread q) j = stood-on m o x v n z s q
+
+-- a good reply that passes
+pub stood : (o : Order) (x : Op) (r : Reading) (v : Seen) (n : Named) → Sized o → Standing (o .method) o x v n → Reads x true r → refusedBy (judge o v x r) ≡ none → StandingThen (o .method) o (afterIn o x) (see (o .method) x r v) (name x r n)
+stood o x r v n z s w j = stood-by (o .method) o x r v n z s w j

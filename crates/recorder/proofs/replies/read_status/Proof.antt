@@ -1,0 +1,30 @@
+use borrow.Author.Tests.{lt-leb, le-leb, eq-eqb, ne-eqb}
+use Rattle.recorder.specs.Replies.{wholeDisc, readStatus}
+use borrow.Author.Needs.{needs}
+use Rattle.recorder.proofs.replies.read_status.Statement.{statement}
+use Rattle.recorder.proofs.replies.read_status.Tie as tie
+
+returns : tie.Need-returns
+unfolding wholeDisc readStatus
+returns c = simp (lt-leb 34 _ (c .if1 .taken))
+
+returns-2 : tie.Need-returns-2
+unfolding wholeDisc readStatus
+returns-2 c = simp (le-leb 34 _ (c .before .before .if1 .left), ← c .before .number16 .ensures .0, lt-leb 32 _ (c .if2 .taken))
+
+returns-3 : tie.Need-returns-3
+unfolding wholeDisc readStatus
+returns-3 c =
+    let k = c .before .before in
+    simp (le-leb 34 _ (k .before .before .if1 .left), ← k .before .number16 .ensures .0, le-leb 32 _ (k .if2 .left), ← c .before .byte-at .ensures .0, ne-eqb _ 0 (c .if3 .taken))
+
+returns-4 : tie.Need-returns-4
+unfolding wholeDisc readStatus
+returns-4 c =
+    let k = c .before .before in
+    simp (le-leb 34 _ (k .before .before .if1 .left), ← k .before .number16 .ensures .0, le-leb 32 _ (k .if2 .left), ← c .before .byte-at .ensures .0, eq-eqb _ 0 (c .if3 .left))
+
+pub read-status-spec : {M : Type 1} → statement M
+read-status-spec =
+    tie.close
+    (tie.spec returns (λ c κs. search needs) returns-2 (λ c κs. search needs) returns-3 (λ c. search needs) returns-4)

@@ -1,0 +1,44 @@
+use borrow.Author.Tests.{eq-eqb, ne-eqb}
+use borrow.Author.Needs.{needs}
+use Rattle.recorder.proofs.rules.judge_track.Statement.{statement}
+use Rattle.recorder.proofs.rules.judge_track.Tie as tie
+
+-- of a later track 5, 6, 8 and 9 are false: the six tests compute to the two
+returns : tie.Need-returns
+returns c =
+    let k = c .before .before in
+    simp (ne-eqb _ 1 (c .before .if1 .taken), c .first-of .ensures, k .it-fits .ensures, k .before .blocks-after .ensures, k .before .before .unusable-track .ensures)
+
+returns-2 : tie.Need-returns-2
+returns-2 c =
+    let s = c .before .before .before in
+    let k = s .before .before .before in
+    simp (
+      eq-eqb _ 1 (s .before .before .if1 .left),
+      c .first-of2 .ensures,
+      s .before .other-profile .ensures,
+      s .unsuitable-status .ensures,
+      c .before .before .mixed-or-kept .ensures,
+      c .before .all-long .ensures,
+      k .it-fits .ensures,
+      k .before .blocks-after .ensures,
+      k .before .before .unusable-track .ensures,
+    )
+
+pub judge-track-spec : {M : Type 1} → statement M
+judge-track-spec =
+    tie.close
+    (tie.spec
+    (λ c κs. search needs)
+    (λ c κs. search needs)
+    (λ c. search needs)
+    (λ c κs. search needs)
+    (λ c κs. search needs)
+    (λ c κs. search needs)
+    returns
+    (λ c κs. search needs)
+    (λ c κs. search needs)
+    (λ c κs. search needs)
+    (λ c κs. search needs)
+    (λ c κs. search needs)
+    returns-2)
