@@ -63,7 +63,7 @@ good-on o (y ∷ rs) es g h = good-on o rs (exchanged (ruled (pass o) es) y es) 
 
 -- ---- each takes one operation off what is left
 
-one-less : (x : Op) (l : List Op) (b : Bool) (j : Judgement) → Turn x b j → b ≡ true → refusedBy j ≡ none → move j (x ∷ l) ≡ l
+pub one-less : (x : Op) (l : List Op) (b : Bool) (j : Judgement) → Turn x b j → b ≡ true → refusedBy j ≡ none → move j (x ∷ l) ≡ l
 one-less x l b j repeats g u = absurd (false-true g)
 one-less x l b j (refuses q) g u = absurd (none-found _ (sym u))
 one-less x l b j works g u = refl

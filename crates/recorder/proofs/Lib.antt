@@ -9,3 +9,9 @@ pub mod Places
 pub mod Standing
 pub mod Moves
 pub mod Makes
+pub mod States
+pub mod Orders
+pub mod Steps
+pub mod Witness
+pub mod Histories
+pub mod Bench

@@ -88,6 +88,10 @@ blocks-split t f (suc k) m =
     ap (λ (j : ℕ). blocks t f j) p ∙
     ap (λ (l : List Block). b ∷ l) (blocks-split t (suc f) k m ∙ ap (λ (g : ℕ). blocks t (suc f) k ++ blocks t g m) q)
 
+pub blocks-length : (t f k : ℕ) → length (blocks t f k) ≡ k
+blocks-length t f zero = refl
+blocks-length t f (suc k) = ap suc (blocks-length t (suc f) k)
+
 -- a list that rises and stays under a bound
 pub data Under : ℕ → List ℕ → Type 0 where
   nowhere : {b : ℕ} → Under b []

@@ -1,11 +1,11 @@
 -- Of every state that passes the recorder's own test: the bytes of the command that a reply leads to are those of its maker, which
 -- refuses none.
 use mathlib.Core.Path.{_≡_, refl, sym, ap, subst, _∙_}
-use mathlib.Core.Bool.{Bool, true, false, cond, _&&_}
+use mathlib.Core.Bool.{Bool, true, false, not, cond, _&&_}
 use mathlib.Core.List.{List, [], _∷_, _++_}
 use Prim.Native.Nat.{ℕ, zero, suc, _+_, _-_, _*_, _/_, _%_, _≤_, _<_}
 use native.Mathlib.Omega.{arith}
-use borrow.Author.Tests.{le-leb, eq-eqb, leb-true, ltb-true, ltb-false, eqb-true}
+use borrow.Author.Tests.{lt-ltb, le-leb, eq-eqb, leb-true, ltb-true, ltb-false, eqb-true}
 use lib.Dec.{ltb, leb, eqb}
 use lib.IntN.{pos, negsuc}
 use lib.Signed.{leZ}
@@ -38,9 +38,9 @@ use Rattle.recorder.specs.Replies.{reading}
 use Rattle.recorder.specs.Script.{write, portion, trackIn, stepwise}
 use Rattle.recorder.specs.Exchanges.{see}
 use Rattle.recorder.specs.Rules.{lastFrame, Judgement, again, onward, refused, judge}
-use Rattle.recorder.specs.Job.{pieceEnded, beforeBlock, afterCloseTrack, opAfter, pieceOf, afterIn, commandOf, Turn, goes, finish, halt, advanced, turnBy, turnOf, stepOf, inOrder, inTime, inPiece, isWrite, standsAt, standsIn, stands, endedAt, giveOf}
+use Rattle.recorder.specs.Job.{pieceEnded, beforeBlock, afterCloseTrack, opAfter, pieceOf, afterIn, commandOf, Turn, goes, finish, halt, advanced, turnBy, turnOf, stepOf, inOrder, inTime, inPiece, isWrite, standsAt, standsIn, stands, unchanged, endedAt, opening, giveOf}
 use Rattle.recorder.proofs.Lists.{if-yes, if-no, false-true, both, clash}
-use Rattle.recorder.proofs.Turns.{isAsking, Reads, busy, failed, malformed, profile, status, information, unread, reads}
+use Rattle.recorder.proofs.Turns.{Asks, a46, a51, a52, isAsking, Reads, busy, failed, malformed, profile, status, information, unread, reads}
 
 -- ---- what the makers need
 
@@ -145,3 +145,154 @@ on-by m n l k t f at h g = go (ltb f l) refl
     go : (b : Bool) → ltb f l ≡ b → Makes n (if b (write t f (portion l f)) (pieceEnded m n k t)) at
     go true q = let w : f < l = ltb-true _ _ q in (h, (omega arith, omega arith))
     go false q = over m g
+
+-- a good reply to an operation that does not ask is not read
+asks-asking : {x : Op} → Asks x → isAsking x ≡ true
+asks-asking a46 = refl
+asks-asking a51 = refl
+asks-asking a52 = refl
+
+pub not-read : (x : Op) (r : Reading) → isAsking x ≡ false → Reads x true r → r ≡ Unread
+not-read x r q (malformed a) = absurd (false-true (sym q ∙ asks-asking a))
+not-read x r q profile = absurd (false-true (sym q))
+not-read x r q status = absurd (false-true (sym q))
+not-read x r q information = absurd (false-true (sym q))
+not-read x r q (unread u) = refl
+
+next-piece : (m : Method) (n k t : ℕ) → inPiece m n k t ≡ true → m ≡ Sao → t < n → 0 < k
+unfolding inPiece
+next-piece Tao n k t e s h = clash (cc)
+next-piece Sao n k t e s h = ltb-true _ _ (sym (if-yes _ _ (lt-ltb _ _ h)) ∙ e)
+
+block-due : (m : Method) (n l k t f : ℕ) → f < l → beforeBlock m n l k t f ≡ write t f (portion l f)
+unfolding beforeBlock
+block-due m n l k t f h = if-yes _ _ (lt-ltb _ _ h)
+
+abbrev MakesThen : ℕ → Following → FrameCount → Type 0
+MakesThen n (Then x) at = Makes n x at
+MakesThen n Nothing at = Unit {0}
+
+module _ (n k : ℕ) (v : Seen) (a : 1 ≤ n) (b : n ≤ mostTracks) where
+  -- the reply is not read
+  on-unread : (m : Method) (l : ℕ) (x : Op) → (x ≡ SendCueSheet → 0 < l) → standsAt m n l k (v .at) x ≡ true → isAsking x ≡ false → MakesThen n (opAfter m n l k x) (see m x Unread v .at)
+  unfolding afterCloseTrack inTime
+  on-unread m l GetConfiguration p e q = tt
+  on-unread m l ReadDiscInformation p e q = tt
+  on-unread m l (ReadTrackInformation t) p e q = tt
+  on-unread Tao l (ModeSelect t) p e q =
+      let h : v .at .0 + l ≤ lastFrame = leb-true _ _ (both (inOrder n (t .0)) _ e .1) in
+      on-by Tao n l k (t .0) 0 (v .at) (omega arith) (λ s g. clash (cc))
+  on-unread Sao l (ModeSelect t) p e q = (a, b)
+  on-unread m l SendCueSheet p e q =
+      let h : v .at .0 + l ≤ lastFrame = leb-true _ _ (both (not (stepwise m)) (leb (v .at .0 + l) lastFrame) e .1) in
+      let w : 0 < l = p refl in
+      subst (λ (y : Op). Makes n y (v .at)) (sym (block-due m n l k 0 0 w)) (omega arith, (omega arith, omega arith))
+  on-unread m l (Write t f c) p e q =
+      let i = both (inPiece m n k (t .0)) _ e in
+      let w = of-piece l (f .0) (c .0) (v .at) (i .1) in
+      let g = w .within in
+      let y = w .part in
+      let h = w .limit in
+      on-by m n l k (t .0) (f .0 + c .0) (see m (Write t f c) Unread v .at) (omega arith) (next-piece m n k (t .0) (i .0))
+  on-unread Tao l (SynchronizeCache t) p e q = tt
+  on-unread Sao l (SynchronizeCache t) p e q = tt
+  on-unread m l (CloseTrack t) p e q = go (ltb (t .0) n)
+    where
+      go : (c : Bool) → Makes n (if c (ReadTrackInformation (record { 0 = suc (t .0) })) CloseSession) (v .at)
+      go true = tt
+      go false = tt
+  on-unread m l CloseSession p e q = tt
+
+  -- after an asking operation nothing is needed
+  on-asking : (m : Method) (l : ℕ) (x : Op) (at : FrameCount) → isAsking x ≡ true → MakesThen n (opAfter m n l k x) at
+  on-asking m l GetConfiguration at q = tt
+  on-asking m l ReadDiscInformation at q = tt
+  on-asking m l (ReadTrackInformation t) at q = tt
+  on-asking m l (ModeSelect t) at q = absurd (false-true q)
+  on-asking m l SendCueSheet at q = absurd (false-true q)
+  on-asking m l (Write t f c) at q = absurd (false-true q)
+  on-asking m l (SynchronizeCache t) at q = absurd (false-true q)
+  on-asking m l (CloseTrack t) at q = absurd (false-true q)
+  on-asking m l CloseSession at q = absurd (false-true q)
+
+-- ---- a reply to such a state
+
+abbrev MakesTurn : ℕ → Turn → Type 0
+MakesTurn n (goes t) = Makes n (t .place) (t .seen .at)
+MakesTurn n finish = Unit {0}
+MakesTurn n (halt w) = Unit {0}
+
+advanced-made : (n : ℕ) (f : Following) (u : Seen) → MakesThen n f (u .at) → MakesTurn n (advanced f u)
+advanced-made n (Then y) u h = h
+advanced-made n Nothing u h = tt
+
+-- no failed reply leads onward
+failed-stays : (o : Order) (v : Seen) (x : Op) (g : Bool) (r : Reading) (xs : List Op) → Reads x g r → g ≡ false → judge o v x r ≡ onward xs → ⊥
+failed-stays o v x g r xs busy f q = clash (cc)
+failed-stays o v x g r xs failed f q = clash (cc)
+failed-stays o v x g r xs (malformed a) f q = false-true (sym f)
+failed-stays o v x g r xs profile f q = false-true (sym f)
+failed-stays o v x g r xs status f q = false-true (sym f)
+failed-stays o v x g r xs information f q = false-true (sym f)
+failed-stays o v x g r xs (unread u) f q = false-true (sym f)
+
+module _ (o : Order) (s : Progress) (e : stands o s ≡ true) where
+  abbrev x : Op
+  x = s .place
+
+  abbrev v : Seen
+  v = s .seen
+
+  standing : (1 ≤ o .count) × ((o .count ≤ mostTracks) × (standsAt (o .method) (o .count) (pieceOf o (trackIn x)) (pieceOf o (suc (trackIn x))) (v .at) x ≡ true))
+  unfolding standsIn
+  standing =
+      let p = both (leb 1 (o .count)) _ e in
+      let q = both (leb (o .count) mostTracks) _ (p .1) in
+      (leb-true _ _ (p .0), (leb-true _ _ (q .0), q .1))
+
+  pause-long : x ≡ SendCueSheet → 0 < pieceOf o (trackIn x)
+  pause-long p = subst (λ (y : Op). 0 < pieceOf o (trackIn y)) (sym p) (omega arith)
+
+  -- a good reply
+  next-made : (r : Reading) → Reads x true r → MakesThen (o .count) (afterIn o x) (see (o .method) x r v .at)
+  next-made r w = go (isAsking x) refl
+    where
+      go : (b : Bool) → isAsking x ≡ b → MakesThen (o .count) (afterIn o x) (see (o .method) x r v .at)
+      go true q = on-asking (o .count) _ v (standing .0) (standing .1 .0) (o .method) _ x _ q
+      go false q =
+          subst (λ (k : Reading). MakesThen (o .count) (afterIn o x) (see (o .method) x k v .at)) (sym (not-read x r q w))
+          (on-unread (o .count) _ v (standing .0) (standing .1 .0) (o .method) _ x pause-long (standing .1 .1) q)
+
+  turn-made : (g : Bool) (r : Reading) (j : Judgement) → Reads x g r → judge o v x r ≡ j → MakesTurn (o .count) (turnBy j o s r)
+  turn-made g r again w q = own-by (o .method) (o .count) _ _ (v .at) x (standing .0) (standing .1 .0) (standing .1 .1)
+  turn-made g r (refused y) w q = tt
+  turn-made true r (onward xs) w q = advanced-made (o .count) (afterIn o x) (see (o .method) x r v) (next-made r w)
+  turn-made false r (onward xs) w q = absurd (failed-stays o v x false r xs w refl q)
+
+-- the command that is given has its maker's bytes
+step-made : (o : Order) (s : Progress) (n : ℕ) (t : Turn) → MakesTurn (o .count) t → (c : Command) → stepOf o s n t .answer ≡ issue c → madeFor (o .count) c ≡ pass (bytesIn (stepOf o s n t .cdb))
+step-made o s n (goes u) h c e =
+    let q : commandOf u ≡ c = cc in
+    ap (madeFor (o .count)) (sym q) ∙ made-by (o .count) (u .place) (u .seen .at) h
+step-made o s n finish h c e = clash (cc)
+step-made o s n (halt w) h c e = clash (cc)
+
+pub give-made : (r : Recorder) (good : Bool) (d : List ℕ) (c : Command) → giveOf r good d .answer ≡ issue c → madeFor (r .order .count) c ≡ pass (bytesIn (giveOf r good d .cdb))
+unfolding giveOf
+give-made r good d c = go (endedAt (r .phase)) (stands (r .order) (r .progress)) refl
+  where
+    t : Turn
+    t = turnOf (r .order) (r .progress) (reading (r .progress .place) (replyOf good d))
+
+    go : (a b : Bool) → stands (r .order) (r .progress) ≡ b →
+        if a (unchanged r 13) (if b (stepOf (r .order) (r .progress) (r .count) t) (unchanged r 3)) .answer ≡ issue c →
+        madeFor (r .order .count) c ≡ pass (bytesIn (if a (unchanged r 13) (if b (stepOf (r .order) (r .progress) (r .count) t) (unchanged r 3)) .cdb))
+    go true b q e = clash (cc)
+    go false false q e = clash (cc)
+    go false true q e =
+        step-made (r .order) (r .progress) (r .count) t
+        (turn-made (r .order) (r .progress) q good (reading (r .progress .place) (replyOf good d)) _ (reads (r .progress .place) (replyOf good d)) refl) c e
+
+-- and the first one
+pub take-made : (o : Order) (n : ℕ) (c : Command) → stepOf o opening n (goes opening) .answer ≡ issue c → madeFor (o .count) c ≡ pass (bytesIn (stepOf o opening n (goes opening) .cdb))
+take-made o n c e = let q : commandOf opening ≡ c = cc in ap (madeFor (o .count)) (sym q) ∙ made-by (o .count) GetConfiguration (record { 0 = 0 }) tt

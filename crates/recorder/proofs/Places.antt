@@ -32,6 +32,11 @@ pub record Sized (o : Order) : Type 0 where
   pub all : length (tracksIn o) ≡ o .count
   pub valid : validOrder o ≡ true
 
+-- by either method
+pub sized-by : (m : Method) (o : Order) → Sized o → Sized (by o m)
+unfolding validOrder
+sized-by m o z = record { some = z .some; few = z .few; all = z .all; valid = z .valid }
+
 -- ---- the parts of the script that are left
 
 -- the tracks after the first t, and the end
@@ -82,7 +87,7 @@ track-length o t h =
     let l : t < o .count = omega arith in
     ap (λ (x : Track). x .length .0) (getD-take (o .count) (o .tracks) t noTrack l)
 
-next-track : (o : Order) (t : ℕ) → t < length (tracksIn o) → tracksFrom o t ≡ trackBy (o .method) (suc t) (pieceOf o (suc t)) (tracksFrom o (suc t))
+pub next-track : (o : Order) (t : ℕ) → t < length (tracksIn o) → tracksFrom o t ≡ trackBy (o .method) (suc t) (pieceOf o (suc t)) (tracksFrom o (suc t))
 next-track o t h =
     ap (eachTrack o t) (drop-cons (tracksIn o) t noTrack h) ∙
     ap (λ (l : ℕ). trackBy (o .method) (suc t) l (tracksFrom o (suc t))) (track-length o t h)

@@ -90,8 +90,7 @@ rule-done o es p = (there, λ w. back (w .1))
 
     there : ruled (pass o) es ≡ done → (recorded es ≡ ordered o) × (closed es ≡ closings o)
     there t =
-        let e : left o es ≡ [] = done-left o es t in
-        (
+        let e : left o es ≡ [] = done-left o es t in (
           sym (append-nil (recorded es)) ∙ ap (λ (m : List Op). recorded es ++ gather blocksIn m) (sym e) ∙ blocks-kept o es p,
           sym (append-nil (closed es)) ∙ ap (λ (m : List Op). closed es ++ gather closingIn m) (sym e) ∙ closings-kept,
         )

@@ -81,7 +81,7 @@ track-blocks t l ys zs e =
     part (writesFrom (suc t) l 0) ys _ (writes-blocks t l 0 (writesFor (l - 0)) refl ∙ ap (λ (m : ℕ). blocks (suc t) 0 m) z) ∙
     ap (λ (m : List Block). blocks (suc t) 0 l ++ m) e
 
-each-blocks : (m : Method) (o : Order) (t : ℕ) (xs : List Track) → gather blocksIn (eachTrack (by o m) t xs) ≡ blocksFrom t xs
+pub each-blocks : (m : Method) (o : Order) (t : ℕ) (xs : List Track) → gather blocksIn (eachTrack (by o m) t xs) ≡ blocksFrom t xs
 each-blocks Tao o t [] = refl
 each-blocks Sao o t [] = refl
 each-blocks Tao o t (x ∷ xs) = track-blocks t (x .length .0) _ _ (each-blocks Tao o (suc t) xs)
@@ -129,5 +129,5 @@ script-unclosed o = go (o .method)
     go Tao = closes-before (GetConfiguration ∷ ReadDiscInformation ∷ []) _ (each-closes Tao o 0 (tracksIn o)) .all
     go Sao =
         closes-before
-            (GetConfiguration ∷ ReadDiscInformation ∷ ReadTrackInformation (record { 0 = 1 }) ∷ ModeSelect (record { 0 = 1 }) ∷ SendCueSheet ∷ writesFrom 0 leadFrames 0)
-            _ (each-closes Sao o 0 (tracksIn o)) .all
+        (GetConfiguration ∷ ReadDiscInformation ∷ ReadTrackInformation (record { 0 = 1 }) ∷ ModeSelect (record { 0 = 1 }) ∷ SendCueSheet ∷ writesFrom 0 leadFrames 0)
+        _ (each-closes Sao o 0 (tracksIn o)) .all

@@ -50,7 +50,11 @@ fn make_command(tracks: u8, c: Command, out: &mut [u8]) -> Made
         Op::ReadTrackInformation(_) => read_track_information(out),
         Op::ModeSelect(_) => mode_select(out),
         Op::SendCueSheet => send_cue_sheet(8 * (tracks as usize + 3), out),
-        Op::Write { track: _, first: _, count } => write(address, count, out),
+        Op::Write {
+            track: _,
+            first: _,
+            count,
+        } => write(address, count, out),
         Op::SynchronizeCache(_) => synchronize_cache(out),
         Op::CloseTrack(_) => close_track_session(1, TrackNumber(0xFF), out),
         Op::CloseSession => close_track_session(2, TrackNumber(0), out),

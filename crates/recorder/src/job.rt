@@ -20,8 +20,8 @@ use crate::rules::judge_reply;
 use crate::rules::see_reply;
 use crate::script::Following;
 use crate::script::Op;
-use crate::script::op_after;
 use crate::script::is_stepwise;
+use crate::script::op_after;
 use crate::script::portion_of;
 use crate::script::track_of;
 use mmc::order::Method;
@@ -156,7 +156,11 @@ fn stands_at(m: Method, tracks: u8, length: u32, next: u32, place: Op, at: Frame
         Op::ReadTrackInformation(_) => begun,
         Op::ModeSelect(_) => page,
         Op::SendCueSheet => sheet,
-        Op::Write { track: _, first, count } => both(piece, is_write(length, first.0, count.0, at)),
+        Op::Write {
+            track: _,
+            first,
+            count,
+        } => both(piece, is_write(length, first.0, count.0, at)),
         Op::SynchronizeCache(_) => begun,
         Op::CloseTrack(_) => closed,
         Op::CloseSession => stepwise,
@@ -205,10 +209,7 @@ fn advance(next: Following, v: Seen) -> Move
     ensures { λ r. ⌜ turnIn r ≡ advanced next v ⌝ }
 {
     match next {
-        Following::Next(op) => Move::Onward(Progress {
-            place: op,
-            seen: v,
-        }),
+        Following::Next(op) => Move::Onward(Progress { place: op, seen: v }),
         Following::Nothing => Move::Finish,
     }
 }
@@ -336,7 +337,14 @@ impl Recorder {
         let v = s.seen;
         let at = v.at;
         let track = track_of(place) as u32;
-        stands_in(m, o.count, piece_length(o, track), piece_length(o, track + 1), place, at)
+        stands_in(
+            m,
+            o.count,
+            piece_length(o, track),
+            piece_length(o, track + 1),
+            place,
+            at,
+        )
     }
 
     // A reply to the latest command goes in: 3 for a state that fails the test, 13 for a job that has ended, both with the

@@ -164,7 +164,11 @@ fn read_good(op: Op, bytes: &[u8]) -> Reading
         Op::ReadTrackInformation(_) => read_information(bytes),
         Op::ModeSelect(_) => Reading::Unread,
         Op::SendCueSheet => Reading::Unread,
-        Op::Write { track: _, first: _, count: _ } => Reading::Unread,
+        Op::Write {
+            track: _,
+            first: _,
+            count: _,
+        } => Reading::Unread,
         Op::SynchronizeCache(_) => Reading::Unread,
         Op::CloseTrack(_) => Reading::Unread,
         Op::CloseSession => Reading::Unread,

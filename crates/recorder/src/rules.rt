@@ -123,7 +123,14 @@ fn it_fits(m: Method, blocks: BlockSum, start: u64, i: TrackInformation) -> bool
 }
 
 // The first of the numbers 5 to 10 that applies.
-fn first_of(profile: bool, status: bool, track: bool, order: bool, short: bool, full: bool) -> Verdict
+fn first_of(
+    profile: bool,
+    status: bool,
+    track: bool,
+    order: bool,
+    short: bool,
+    full: bool,
+) -> Verdict
     ensures { λ r. ⌜ judgementIn r ≡ tested (test profile 5 ∷ test status 6 ∷ test track 7 ∷ test order 8 ∷ test short 9 ∷ test full 10 ∷ []) ⌝ }
 {
     if profile {

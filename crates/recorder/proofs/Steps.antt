@@ -1,0 +1,208 @@
+-- One reply more: while the job goes on it does what the rules say, and once it has ended nothing changes.
+use mathlib.Core.Path.{_≡_, refl, sym, ap, subst, _∙_}
+use mathlib.Core.Bool.{Bool, true, false}
+use mathlib.Core.List.{List, [], _∷_, _++_}
+use Prim.Native.Nat.{ℕ, suc, _+_, _≤_, _<_, min}
+use native.Mathlib.Omega.{arith}
+use lib.ListN.{length}
+use Rattle.mmc.specs.Refusals.{Outcome, pass}
+use Rattle.mmc.specs.ReplyBlock.{Reply, replyOf}
+use Rattle.mmc.specs.declared.order.Order.{Order}
+use Rattle.recorder.specs.declared.script.Op.{Op}
+use Rattle.recorder.specs.declared.answers.Command.{Command}
+use Rattle.recorder.specs.declared.replies.Reading.{Reading}
+use Rattle.recorder.specs.declared.rules.Seen.{Seen}
+use Rattle.recorder.specs.declared.job.Phase.{Phase}
+use Rattle.recorder.specs.declared.job.Phase.the-variants.{Going as Open, Finished, Stopped}
+use Rattle.recorder.specs.declared.job.Recorder.{Recorder}
+use Rattle.recorder.specs.Answers.{Why, because, Ruling, issue, done, stop, madeFor, bytesIn}
+use Rattle.recorder.specs.Replies.{reading}
+use Rattle.recorder.specs.Script.{stepwise}
+use Rattle.recorder.specs.Exchanges.{Exchange, seen, named}
+use Rattle.recorder.specs.Rules.{judge, judged, move, left, none, found, refusedBy, firstRefused, ruled, exchanged}
+use Rattle.recorder.specs.Job.{Next, commandOf, Turn, goes, finish, halt, turnOf, mostCommands, oneMore, stateOf, nextOf, stepOf, unchanged, stands, endedAt, validOf, giveOf}
+use Rattle.recorder.specs.History.{History, given, commandIn, commands, Ending, going, as-done, as-stop, ending, sooner, ended, EachFresh}
+use Rattle.recorder.proofs.Lists.{clash, if-yes, if-no, false-true}
+use Rattle.recorder.proofs.Turns.{made}
+use Rattle.recorder.proofs.Rulings.{refused-next, ruled-at, ruled-stop}
+use Rattle.recorder.proofs.Places.{Sized, behind}
+use Rattle.recorder.proofs.Standing.{Standing}
+use Rattle.recorder.proofs.Moves.{at, Moved, on-to, stops, ends, moved}
+use Rattle.recorder.proofs.Makes.{give-made}
+use Rattle.recorder.proofs.States.{standing-stands, standing-fresh}
+
+-- the job that waits for the reply to an operation's command
+abbrev pub waiting : Order → Op → List Exchange → ℕ → Recorder
+waiting o x es n = stateOf o (at x (seen (o .method) es)) Open n
+
+abbrev pub live : Order → Op → ℕ → List Ruling → List Exchange → History
+live o x n xs es = record { last = nextOf (waiting o x es n) (issue (commandOf (at x (seen (o .method) es)))); answers = xs; exchanges = es }
+
+-- after k replies: the job goes on
+pub record Going (o : Order) (k : ℕ) (x : Op) (n : ℕ) (xs : List Ruling) (es : List Exchange) : Type 0 where
+  pub sized : Sized o
+  pub unrefused : firstRefused o es ≡ none
+  pub plan : left o es ≡ x ∷ behind o x
+  pub standing : Standing (o .method) o x (seen (o .method) es) (named es)
+  pub bytes-made : madeFor (o .count) (commandOf (at x (seen (o .method) es))) ≡ pass (bytesIn (live o x n xs es .last .cdb))
+  pub counts : n ≡ min (length (commands xs)) mostCommands
+  pub not-ended : ended xs ≡ going
+  pub commands-given : length (commands xs) ≡ length es + 1
+  pub each : length es ≡ k
+  pub fresh : stepwise (o .method) ≡ true → EachFresh es
+
+abbrev pub isEnd : Ruling → Bool
+isEnd (issue c) = false
+isEnd done = true
+isEnd (stop w) = true
+
+-- after k replies: the job has ended
+pub record Over (q : Outcome Order) (k : ℕ) (h : History) : Type 0 where
+  pub answer-ends : isEnd (h .last .answer) ≡ true
+  pub state-ended : endedAt (h .last .state .phase) ≡ true
+  pub rules-over : isEnd (ruled q (h .exchanges)) ≡ true
+  pub so-ended : ended (h .answers) ≡ ending (ruled q (h .exchanges))
+  pub counts : h .last .state .count ≡ min (length (commands (h .answers))) mostCommands
+  pub reports : h .last .count ≡ h .last .state .count
+  pub commands-given : length (commands (h .answers)) ≡ length (h .exchanges)
+  pub then : length (h .exchanges) ≡ k → h .last .answer ≡ ruled q (h .exchanges)
+  pub later : length (h .exchanges) < k → h .last .answer ≡ stop (because 13)
+  pub each : length (h .exchanges) ≤ k
+  pub fresh : (o : Order) → q ≡ pass o → stepwise (o .method) ≡ true → EachFresh (h .exchanges)
+
+pub data Inv : Outcome Order → ℕ → History → Type 0 where
+  open-so : {o : Order} {k : ℕ} {x : Op} {n : ℕ} {xs : List Ruling} {es : List Exchange} → Going o k x n xs es → Inv (pass o) k (live o x n xs es)
+  over-so : {q : Outcome Order} {k : ℕ} {h : History} → Over q k h → Inv q k h
+
+-- ---- the answers
+
+-- a reply that answers nothing
+pub no-exchange : (a : Ruling) (y : Reply) (es : List Exchange) → isEnd a ≡ true → exchanged a y es ≡ es
+no-exchange (issue c) y es e = absurd (false-true e)
+no-exchange done y es e = refl
+no-exchange (stop w) y es e = refl
+
+ended-stays : (x y : Ending) → (x ≡ going → ⊥) → sooner x y ≡ x
+ended-stays going y n = absurd (n refl)
+ended-stays as-done y n = refl
+ended-stays (as-stop w) y n = refl
+
+not-going : (a : Ruling) → isEnd a ≡ true → ending a ≡ going → ⊥
+not-going (issue c) t e = false-true t
+not-going done t e = clash (cc)
+not-going (stop w) t e = clash (cc)
+
+-- ---- the step of a valid state that goes on, and of one that has ended
+
+give-live : (o : Order) (x : Op) (es : List Exchange) (n : ℕ) (y : Reply) → stands o (at x (seen (o .method) es)) ≡ true → giveOf (waiting o x es n) (y .good) (y .bytes) ≡ stepOf o (at x (seen (o .method) es)) n (turnOf o (at x (seen (o .method) es)) (reading x y))
+unfolding giveOf
+give-live o x es n y v = if-yes _ _ v
+
+pub ended-valid : (r : Recorder) → endedAt (r .phase) ≡ true → validOf r ≡ true
+unfolding validOf
+ended-valid r e = if-yes _ _ e
+
+pub give-over : (r : Recorder) (g : Bool) (d : List ℕ) → endedAt (r .phase) ≡ true → giveOf r g d ≡ unchanged r 13
+unfolding giveOf
+give-over r g d e = if-yes _ _ e
+
+-- a history with one step more
+abbrev step : History → Reply → Next → History
+step h y x = record { last = x; answers = x .answer ∷ h .answers; exchanges = exchanged (h .last .answer) y (h .exchanges) }
+
+-- ---- an ended job
+
+again : (q : Outcome Order) (k : ℕ) (h : History) (y : Reply) → Over q k h → Over q (suc k) (step h y (unchanged (h .last .state) 13))
+again q k h y v =
+    record {
+      answer-ends = refl;
+      state-ended = v .state-ended;
+      rules-over = subst (λ (l : List Exchange). isEnd (ruled q l) ≡ true) s (v .rules-over);
+      so-ended = ended-stays (ended (h .answers)) _ (λ e. not-going (ruled q (h .exchanges)) (v .rules-over) (sym (v .so-ended) ∙ e)) ∙ subst (λ (l : List Exchange). ended (h .answers) ≡ ending (ruled q l)) s (v .so-ended);
+      counts = v .counts;
+      reports = refl;
+      commands-given = v .commands-given ∙ ap length s;
+      then = λ z. absurd (omega (arith, v .each, ap length s));
+      later = λ z. refl;
+      each = omega (arith, v .each, ap length s);
+      fresh = λ o e w. subst EachFresh s (v .fresh o e w);
+    }
+  where
+    s : h .exchanges ≡ exchanged (h .last .answer) y (h .exchanges)
+    s = sym (no-exchange (h .last .answer) y (h .exchanges) (v .answer-ends))
+
+-- ---- a job that goes on
+
+module _ (o : Order) (k : ℕ) (x : Op) (n : ℕ) (xs : List Ruling) (es : List Exchange) (y : Reply) (g : Going o k x n xs es) where
+  abbrev e : Exchange
+  e = made o es x y
+
+  fresh-then : stepwise (o .method) ≡ true → EachFresh (e ∷ es)
+  fresh-then w = (standing-fresh o x (seen (o .method) es) (named es) w (g .standing), g .fresh w)
+
+  stepped : giveOf (waiting o x es n) (y .good) (y .bytes) ≡ stepOf o (at x (seen (o .method) es)) n (turnOf o (at x (seen (o .method) es)) (reading x y))
+  stepped = give-live o x es n y (standing-stands o x (seen (o .method) es) (named es) (g .sized) (g .standing))
+
+  -- to the next command
+  on : (z : Op) → turnOf o (at x (seen (o .method) es)) (reading x y) ≡ goes (at z (seen (o .method) (e ∷ es))) → refusedBy (judged o es e) ≡ none → move (judged o es e) (x ∷ behind o x) ≡ z ∷ behind o z → Standing (o .method) o z (seen (o .method) (e ∷ es)) (named (e ∷ es)) → Going o (suc k) z (oneMore n) (issue (commandOf (at z (seen (o .method) (e ∷ es)))) ∷ xs) (e ∷ es)
+  on z t j m s =
+      let c = g .counts in
+      let b = g .commands-given in
+      let d = g .each in
+      let q : giveOf (waiting o x es n) (y .good) (y .bytes) ≡ stepOf o (at x (seen (o .method) es)) n (goes (at z (seen (o .method) (e ∷ es)))) = stepped ∙ ap (stepOf o (at x (seen (o .method) es)) n) t in
+      record {
+        sized = g .sized;
+        unrefused = refused-next o es e none (g .unrefused) j;
+        plan = ap (move (judged o es e)) (g .plan) ∙ m;
+        standing = s;
+        bytes-made = give-made (waiting o x es n) (y .good) (y .bytes) _ (ap (λ (w : Next). w .answer) q) ∙ ap (λ (w : Next). pass (bytesIn (w .cdb))) q;
+        counts = omega arith;
+        not-ended = ap (λ (w : Ending). sooner w going) (g .not-ended);
+        commands-given = omega arith;
+        each = omega arith;
+        fresh = fresh-then;
+      }
+
+  -- to an end that the rules say too
+  end-at : (p : Phase) (a : Ruling) → endedAt p ≡ true → isEnd a ≡ true → commandIn a ≡ [] → ruled (pass o) (e ∷ es) ≡ a → Over (pass o) (suc k) (record { last = nextOf (stateOf o (at x (seen (o .method) es)) p n) a; answers = a ∷ xs; exchanges = e ∷ es })
+  end-at p a z t m r =
+      let c = g .counts in
+      let b = g .commands-given in
+      let d = g .each in
+      let l : commands (a ∷ xs) ≡ commands xs = ap (λ (w : List Command). w ++ commands xs) m in
+      let f = ap length l in
+      record {
+        answer-ends = t;
+        state-ended = z;
+        rules-over = ap isEnd r ∙ t;
+        so-ended = ap (λ (w : Ending). sooner w (ending a)) (g .not-ended) ∙ ap ending (sym r);
+        counts = omega arith;
+        reports = refl;
+        commands-given = omega arith;
+        then = λ w. sym r;
+        later = λ w. absurd (omega arith);
+        each = omega arith;
+        fresh = λ p q w. fresh-then (same-stepwise p q w);
+      }
+    where
+      same-stepwise : (p : Order) → pass o ≡ pass p → stepwise (p .method) ≡ true → stepwise (o .method) ≡ true
+      same-stepwise p q w = let i : o ≡ p = cc in ap (λ (m : Order). stepwise (m .method)) i ∙ w
+
+  next-open : Inv (pass o) (suc k) (step (live o x n xs es) y (stepOf o (at x (seen (o .method) es)) n (turnOf o (at x (seen (o .method) es)) (reading x y))))
+  next-open = go (moved o x (seen (o .method) es) (named es) (g .sized) (g .standing) y)
+    where
+      to : (t : Turn) → turnOf o (at x (seen (o .method) es)) (reading x y) ≡ t → Inv (pass o) (suc k) (step (live o x n xs es) y (stepOf o (at x (seen (o .method) es)) n t)) → Inv (pass o) (suc k) (step (live o x n xs es) y (stepOf o (at x (seen (o .method) es)) n (turnOf o (at x (seen (o .method) es)) (reading x y))))
+      to t q i = subst (λ (z : Turn). Inv (pass o) (suc k) (step (live o x n xs es) y (stepOf o (at x (seen (o .method) es)) n z))) (sym q) i
+
+      go : Moved o x (seen (o .method) es) (named es) (reading x y) → Inv (pass o) (suc k) (step (live o x n xs es) y (stepOf o (at x (seen (o .method) es)) n (turnOf o (at x (seen (o .method) es)) (reading x y))))
+      go (on-to z t j m s) = to _ t (open-so (on z t j m s))
+      go (stops w t j) = to _ t (over-so (end-at Stopped (stop w) refl refl refl (ruled-stop o (e ∷ es) w (refused-next o es e (found w) (g .unrefused) j))))
+      go (ends t j m) = to _ t (over-so (end-at Finished done refl refl refl (ruled-at o (e ∷ es) [] (refused-next o es e none (g .unrefused) j) (ap (move (judged o es e)) (g .plan) ∙ m))))
+
+-- any reply
+pub next-inv : (q : Outcome Order) (k : ℕ) (h : History) (y : Reply) → Inv q k h → Inv q (suc k) (given h y)
+unfolding given
+next-inv q k h y (open-so {o = o} {x = x} {n = n} {xs = xs} {es = es} g) =
+    subst (λ (z : Next). Inv (pass o) (suc k) (step (live o x n xs es) y z)) (sym (stepped o k x n xs es y g)) (next-open o k x n xs es y g)
+next-inv q k h y (over-so v) =
+    subst (λ (z : Next). Inv q (suc k) (step h y z)) (sym (give-over (h .last .state) (y .good) (y .bytes) (v .state-ended))) (over-so (again q k h y v))

@@ -1,0 +1,450 @@
+-- Good replies that the rules pass exist for every order that passes 8, 9 and the lead-out limit, on every disc that passes 5 and 6:
+-- each 52h names where the track before ends, and all blocks are free.
+use mathlib.Core.Path.{_≡_, refl, sym, ap, subst, _∙_}
+use mathlib.Core.Bool.{Bool, true, false, not, _&&_}
+use mathlib.Core.List.{List, [], _∷_, _++_}
+use Prim.Native.Nat.{ℕ, zero, suc, _+_, _-_, _*_, _/_, _%_, _≤_, _<_, max}
+use native.Mathlib.Omega.{arith}
+use borrow.Author.Tests.{le-ltb, le-leb, ltb-false, eqb-true, not-false}
+use lib.Dec.{ltb, leb, eqb, lit<}
+use lib.ListN.{length, drop, replicate, length-append}
+use Rattle.mmc.specs.Bytes.{if, be32}
+use Rattle.mmc.specs.Refusals.{pass}
+use Rattle.mmc.specs.Order.{noTrack, tracksIn, blocksOf}
+use Rattle.mmc.specs.Times.{leadFrames, framesTo}
+use Rattle.mmc.specs.ReplyBlock.{Reply, replyOf}
+use Rattle.mmc.specs.declared.units.FrameCount.{FrameCount}
+use Rattle.mmc.specs.declared.units.TrackNumber.{TrackNumber}
+use Rattle.mmc.specs.declared.order.Order.{Order}
+use Rattle.mmc.specs.declared.order.Track.{Track}
+use Rattle.mmc.specs.declared.order.Method.{Method}
+use Rattle.mmc.specs.declared.order.Method.the-variants.{Tao, Sao}
+use Rattle.recorder.specs.declared.script.Op.{Op}
+use Rattle.recorder.specs.declared.script.Op.the-variants.{GetConfiguration, ReadDiscInformation, ReadTrackInformation, ModeSelect, SendCueSheet, Write, SynchronizeCache, CloseTrack, CloseSession}
+use Rattle.recorder.specs.declared.replies.TrackInformation.{TrackInformation}
+use Rattle.recorder.specs.declared.replies.Reading.{Reading}
+use Rattle.recorder.specs.declared.replies.Reading.the-variants.{Malformed, Profile, Status, Information, Unread}
+use Rattle.recorder.specs.declared.rules.Seen.{Seen}
+use Rattle.recorder.specs.Answers.{Ruling, issue, done, stop}
+use Rattle.recorder.specs.Replies.{wholeProfile, readProfile, wholeDisc, readStatus, wholeInformation, informationOf, readInformation, reading}
+use Rattle.recorder.specs.Script.{code, gather, write, countIn, stepwise, Block, blocks, blocksFrom, blocksIn, script, expected}
+use Rattle.recorder.specs.Exchanges.{Exchange, Named, see, seen, name, named}
+use Rattle.recorder.specs.Rules.{otherProfile, lastStatus, unsuitable, unusable, mixedOrKept, shortTrack, still, leadOut, lastFrame, fits, openingTests, laterTests, trackTests, judge, judged, move, left, none, refusedBy, firstRefused, answerTo, ruled, exchanged, play}
+use Rattle.recorder.specs.History.{going, as-done, ending, AllMarkedGood, Bytes, AllBytes, Passing, Recordable, Suitable}
+use Rattle.recorder.proofs.Lists.{if-yes, if-no, false-true, none-found, both, clash, Clear, clear-passes, blocks-length}
+use Rattle.recorder.proofs.Turns.{made, isAsking, turn}
+use Rattle.recorder.proofs.Scripts.{by, each-blocks}
+use Rattle.recorder.proofs.Rulings.{refused-next, ruled-at, done-left}
+use Rattle.recorder.proofs.Apart.{past-count}
+use Rattle.recorder.proofs.Goods.{one-less, Progressed, under-way, at-end, rule-good}
+use Rattle.recorder.proofs.Places.{Sized, tracksFrom, behind, next-track}
+use Rattle.recorder.proofs.Standing.{blocksAfter, Standing}
+use Rattle.recorder.proofs.Moves.{Moved, on-to, stops, ends, moved}
+
+-- ---- the bytes of the replies
+
+abbrev fourBytes : ℕ → List ℕ
+fourBytes z = (z / 256 / 256 / 256) % 256 ∷ (z / 256 / 256) % 256 ∷ (z / 256) % 256 ∷ z % 256 ∷ []
+
+-- whole for 46h, 51h and 52h alike: a disc status, byte 7, an address and free blocks
+abbrev naming : ℕ → ℕ → ℕ → ℕ → List ℕ
+naming c q a f = 0 ∷ 32 ∷ q ∷ 0 ∷ 0 ∷ 0 ∷ 0 ∷ c ∷ 0 ∷ 0 ∷ 0 ∷ 0 ∷ (fourBytes a ++ (fourBytes f ++ replicate 14 0))
+
+-- a list of bytes
+data Low : List ℕ → Type 0 where
+  empty : Low []
+  more : {x : ℕ} {l : List ℕ} → x < 256 → Low l → Low (x ∷ l)
+
+low-bytes : {l : List ℕ} → Low l → Bytes l
+low-bytes empty k = lit< tt
+low-bytes (more h b) zero = h
+low-bytes (more h b) (suc k) = low-bytes b k
+
+low-zeros : (n : ℕ) → Low (replicate n 0)
+low-zeros zero = empty
+low-zeros (suc n) = more (lit< tt) (low-zeros n)
+
+rest-below : (z : ℕ) → z % 256 < 256
+rest-below z = omega arith
+
+low-four : (z : ℕ) {l : List ℕ} → Low l → Low (fourBytes z ++ l)
+low-four z b = more (rest-below (z / 256 / 256 / 256)) (more (rest-below (z / 256 / 256)) (more (rest-below (z / 256)) (more (rest-below z) b)))
+
+zero-then : {l : List ℕ} → Low l → Low (0 ∷ l)
+zero-then b = more (lit< tt) b
+
+naming-bytes : (c q a f : ℕ) → c < 256 → q < 256 → Bytes (naming c q a f)
+naming-bytes c q a f h k =
+    low-bytes
+    (zero-then (more (lit< tt) (more k (zero-then (zero-then (zero-then (zero-then (more h (zero-then (zero-then (zero-then (zero-then (low-four a (low-four f (low-zeros 14)))))))))))))))
+
+module _ (c q a f : ℕ) where
+  abbrev d : List ℕ
+  d = naming c q a f
+
+  named-profile : readProfile d ≡ Profile c
+  unfolding readProfile wholeProfile be32
+  named-profile =
+      let e : 0 * 256 + c ≡ c = omega arith in
+      let h : 4 ≤ be32 d = omega arith in
+      if-yes _ _ (le-leb _ _ h) ∙ ap Profile e
+
+  named-status : q ≤ 1 → readStatus d ≡ Status q
+  unfolding readStatus wholeDisc
+  named-status h =
+      let e : q % 4 ≡ q = omega arith in
+      let z : q / 32 ≡ 0 = omega arith in
+      ap (λ (k : ℕ). if (eqb k 0) (Status (q % 4)) Malformed) z ∙ ap Status e
+
+  named-whole : readInformation d ≡ Information (informationOf d)
+  unfolding readInformation wholeInformation
+  named-whole = refl
+
+  named-start : a < 4294967296 → framesTo (informationOf d .address) .0 ≡ a + leadFrames
+  unfolding framesTo informationOf be32
+  named-start h = let e : be32 (drop 12 d) ≡ a = omega arith in ap (λ (x : ℕ). x + leadFrames) e
+
+  named-free : f < 4294967296 → informationOf d .free .0 ≡ f
+  unfolding informationOf be32
+  named-free h = omega arith
+
+-- ---- what is still ahead, in blocks
+
+from-length : (t : ℕ) (xs : List Track) → length (blocksFrom t xs) ≡ blocksOf xs
+unfolding blocksOf
+from-length t [] = refl
+from-length t (x ∷ xs) =
+    let a = length-append (blocks (suc t) 0 (x .length .0)) (blocksFrom (suc t) xs) in
+    let b = blocks-length (suc t) 0 (x .length .0) in
+    let i = from-length (suc t) xs in
+    omega arith
+
+abbrev ahead : List Op → ℕ
+ahead l = length (gather blocksIn l)
+
+tracks-ahead : (o : Order) (t : ℕ) → ahead (tracksFrom o t) ≡ blocksAfter o t
+tracks-ahead o t = ap length (each-blocks (o .method) o t (drop t (tracksIn o))) ∙ from-length t (drop t (tracksIn o))
+
+-- at a 52h in TAO: the tracks from its own on
+track-ahead : (o : Order) (t : ℕ) → 1 ≤ t → t ≤ o .count → length (tracksIn o) ≡ o .count → ahead (ReadTrackInformation (record { 0 = t }) ∷ behind (by o Tao) (ReadTrackInformation (record { 0 = t }))) ≡ still o t
+track-ahead o zero h l n = absurd (omega arith)
+track-ahead o (suc t) h l n =
+    let k : t ≡ suc t - 1 = omega arith in
+    ap ahead (sym (next-track (by o Tao) t (omega arith))) ∙ tracks-ahead (by o Tao) t ∙ ap (blocksAfter o) k
+
+-- room for what is ahead where each track begins right behind the one before, the first at address 0
+abbrev RoomBy : Method → Order → FrameCount → List Op → Type 0
+RoomBy Tao o at l = max (at .0) leadFrames + ahead l ≤ leadFrames + blocksOf (tracksIn o)
+RoomBy Sao o at l = Unit {0}
+
+-- an operation that stands takes off what it puts
+write-ahead : (t : ℕ) (f k : ℕ) (l : List Op) → 1 ≤ t → ahead (write t f k ∷ l) ≡ k + ahead l
+write-ahead zero f k l h = absurd (omega arith)
+write-ahead (suc t) f k l h = let a = length-append (blocks (suc t) f k) (gather blocksIn l) in let b = blocks-length (suc t) f k in omega arith
+
+room-on : (o : Order) (x : Op) (v : Seen) (n : Named) → Standing Tao (by o Tao) x v n → RoomBy Tao o (v .at) (x ∷ behind (by o Tao) x) → isAsking x ≡ false → RoomBy Tao o (see Tao x Unread v .at) (behind (by o Tao) x)
+room-on o GetConfiguration v n s r q = absurd (false-true (sym q))
+room-on o ReadDiscInformation v n s r q = absurd (false-true (sym q))
+room-on o (ReadTrackInformation t) v n s r q = absurd (false-true (sym q))
+room-on o (ModeSelect t) v n s r q = r
+room-on o SendCueSheet v n s r q = absurd s
+room-on o (Write t f c) v n s r q =
+    let h = s .0 .in-order .one in
+    let e = write-ahead (t .0) (f .0) (c .0) (behind (by o Tao) (Write t f c)) h in
+    omega arith
+room-on o (SynchronizeCache t) v n s r q = r
+room-on o (CloseTrack t) v n s r q = r
+room-on o CloseSession v n s r q = r
+
+module _ (o : Order) (z : Sized o) (ok : Recordable o) (p q : ℕ) (su : Suitable o p q) where
+  low-profile : p < 256
+  unfolding otherProfile
+  low-profile = go (eqb p 0x0009) refl (su .profile-so)
+    where
+      go : (b : Bool) → eqb p 0x0009 ≡ b → not b && not (eqb p 0x000A) ≡ false → p < 256
+      go true e h = let k : p ≡ 9 = eqb-true _ _ e in omega arith
+      go false e h = let k : p ≡ 10 = eqb-true _ _ (not-false _ h) in omega arith
+
+  low-status : q ≤ 1
+  unfolding unsuitable
+  low-status = go (o .method) (ltb-false _ _ (su .status-so))
+    where
+      go : (m : Method) → q ≤ lastStatus m → q ≤ 1
+      go Tao h = h
+      go Sao h = omega arith
+
+  abbrev all : ℕ
+  all = blocksOf (tracksIn o)
+
+  -- 46h is told the profile; bit 0 of the same byte is NWA_V
+  abbrev seventh : Op → ℕ
+  seventh x = if (eqb (code x) 0x46) p 9
+
+  abbrev told : Op → Seen → List ℕ
+  told x v = naming (seventh x) q (v .at .0 - leadFrames) all
+
+  abbrev replyTo : Op → Seen → Reply
+  replyTo x v = replyOf true (told x v)
+
+  told-bytes : (x : Op) (v : Seen) → Bytes (told x v)
+  told-bytes x v = let l = low-status in naming-bytes (seventh x) q (v .at .0 - leadFrames) all (go (eqb (code x) 0x46)) (omega arith)
+    where
+      go : (b : Bool) → if b p 9 < 256
+      go true = low-profile
+      go false = lit< tt
+
+  -- ---- the tests of a 52h
+
+  abbrev informed : ℕ → TrackInformation
+  informed at = informationOf (naming 9 q (at - leadFrames) all)
+
+  usable-so : (m : Method) (at : FrameCount) → at .0 < 4294967296 → unusable m at (informed (at .0)) ≡ false
+  unfolding unusable informationOf
+  usable-so Tao at h =
+      let s = named-start 9 q (at .0 - leadFrames) all (omega arith) in
+      let l : at .0 ≤ framesTo (informed (at .0) .address) .0 = omega arith in
+      le-ltb _ _ l
+  usable-so Sao at h = refl
+
+  fits-so : (m : Method) (s at : ℕ) → s ≤ all → at < 4294967296 → leadOut m s (informed at) ≤ lastFrame → not (fits m s (informed at)) ≡ false
+  unfolding fits
+  fits-so m s at h k l =
+      let e = ok .ends in
+      let f = named-free 9 q (at - leadFrames) all (omega arith) in
+      let r : s ≤ informed at .free .0 = omega arith in
+      ap not (ap (λ (b : Bool). b && leb (leadOut m s (informed at)) lastFrame) (le-leb _ _ r) ∙ le-leb _ _ l)
+
+  -- all or some of the tests pass
+  clear-by : (t : ℕ) (v : Seen) (i : TrackInformation) → v .profile ≡ p → v .status ≡ q → unusable (o .method) (v .at) i ≡ false → not (fits (o .method) (still o t) i) ≡ false → Clear (trackTests o t v i)
+  clear-by t v i a b u f = go (eqb t 1)
+    where
+      go : (c : Bool) → Clear (if c (openingTests o t v i) (laterTests o t v i))
+      go true = (ap otherProfile a ∙ su .profile-so, (ap (unsuitable (o .method)) b ∙ su .status-so, (u, (ok .alike, (ap not (ok .long), (f, tt))))))
+      go false = (u, (f, tt))
+
+  still-first : still o 1 ≡ all
+  still-first = refl
+
+  clear-52 : (m : Method) → o .method ≡ m → (t : TrackNumber) (v : Seen) (n : Named) → Standing m (by o m) (ReadTrackInformation t) v n → RoomBy m o (v .at) (ReadTrackInformation t ∷ behind (by o m) (ReadTrackInformation t)) → v .profile ≡ p → v .status ≡ q → Clear (trackTests o (t .0) v (informed (v .at .0)))
+  clear-52 Tao e t v n s r a b =
+      let k = track-ahead o (t .0) (s .one) (s .few) (z .all) in
+      let w = ok .ends in
+      let h : v .at .0 < 4294967296 = omega arith in
+      let c = named-start 9 q (v .at .0 - leadFrames) all (omega arith) in
+      let l : leadOut Tao (still o (t .0)) (informed (v .at .0)) ≤ lastFrame = omega arith in
+      clear-by (t .0) v (informed (v .at .0)) a b (ap (λ (x : Method). unusable x (v .at) (informed (v .at .0))) e ∙ usable-so Tao (v .at) h)
+      (ap (λ (x : Method). not (fits x (still o (t .0)) (informed (v .at .0)))) e ∙ fits-so Tao (still o (t .0)) (v .at .0) (omega arith) h l)
+  clear-52 Sao e t v n s r a b =
+      let w = ok .ends in
+      let g = s .1 in
+      let h : v .at .0 < 4294967296 = omega arith in
+      let k : still o (t .0) ≡ all = ap (still o) (s .0) in
+      let l : leadOut Sao (still o (t .0)) (informed (v .at .0)) ≤ lastFrame = omega arith in
+      clear-by (t .0) v (informed (v .at .0)) a b (ap (λ (x : Method). unusable x (v .at) (informed (v .at .0))) e ∙ usable-so Sao (v .at) h)
+      (ap (λ (x : Method). not (fits x (still o (t .0)) (informed (v .at .0)))) e ∙ fits-so Sao (still o (t .0)) (v .at .0) (omega arith) h l)
+
+  -- ---- one reply more
+
+  abbrev Both : Seen → Type 0
+  Both v = (v .profile ≡ p) × (v .status ≡ q)
+
+  -- what is known where an operation is due
+  abbrev Known : Op → Seen → Type 0
+  Known GetConfiguration v = Unit {0}
+  Known ReadDiscInformation v = v .profile ≡ p
+  Known (ReadTrackInformation t) v = Both v
+  Known (ModeSelect t) v = Both v
+  Known SendCueSheet v = Both v
+  Known (Write t f k) v = Both v
+  Known (SynchronizeCache t) v = Both v
+  Known (CloseTrack t) v = Both v
+  Known CloseSession v = Both v
+
+  -- a reply that passes, and what is known and ahead then
+  record Told (x : Op) (v : Seen) (r : Reading) : Type 0 where
+    passes : refusedBy (judge o v x r) ≡ none
+    knows : (l : List Op) (y : Op) → behind o x ≡ y ∷ l → Known y (see (o .method) x r v)
+    ends-known : behind o x ≡ [] → Both (see (o .method) x r v)
+    room : RoomBy (o .method) o (see (o .method) x r v .at) (behind o x)
+
+  all-known : (y : Op) (v : Seen) → Both v → Known y v
+  all-known GetConfiguration v b = tt
+  all-known ReadDiscInformation v b = b .0
+  all-known (ReadTrackInformation t) v b = b
+  all-known (ModeSelect t) v b = b
+  all-known SendCueSheet v b = b
+  all-known (Write t f k) v b = b
+  all-known (SynchronizeCache t) v b = b
+  all-known (CloseTrack t) v b = b
+  all-known CloseSession v b = b
+
+  same-room : (m : Method) (at : FrameCount) (x : Op) (l : List Op) → ahead (x ∷ l) ≡ ahead l → RoomBy m o at (x ∷ l) → RoomBy m o at l
+  same-room Tao at x l e r = omega arith
+  same-room Sao at x l e r = tt
+
+  -- after a 52h the track starts where the one before ended
+  start-room : (m : Method) (t : TrackNumber) (v : Seen) (l : List Op) → v .at .0 < 4294967296 → RoomBy m o (v .at) (ReadTrackInformation t ∷ l) → RoomBy m o (see m (ReadTrackInformation t) (Information (informed (v .at .0))) v .at) l
+  start-room Tao t v l h r = let c = named-start 9 q (v .at .0 - leadFrames) all (omega arith) in omega arith
+  start-room Sao t v l h r = tt
+
+  early : (m : Method) (t : TrackNumber) (v : Seen) (n : Named) (l : List Op) → Standing m (by o m) (ReadTrackInformation t) v n → RoomBy m o (v .at) l → v .at .0 < 4294967296
+  early Tao t v n l s r = let w = ok .ends in omega arith
+  early Sao t v n l s r = let g = s .1 in omega arith
+
+  unread-room : (m : Method) (x : Op) (v : Seen) (n : Named) → Standing m (by o m) x v n → RoomBy m o (v .at) (x ∷ behind (by o m) x) → isAsking x ≡ false → RoomBy m o (see m x Unread v .at) (behind (by o m) x)
+  unread-room Tao x v n s r e = room-on o x v n s r e
+  unread-room Sao x v n s r e = tt
+
+  abbrev ToldBy : Op → Seen → Type 0
+  ToldBy x v = Told x v (reading x (replyTo x v))
+
+  told-unread : (x : Op) (v : Seen) (n : Named) → Standing (o .method) o x v n → Both v → RoomBy (o .method) o (v .at) (x ∷ behind o x) → isAsking x ≡ false → Told x v Unread
+  told-unread x v n s k r e =
+      record { passes = refl; knows = λ l y f. all-known y _ k; ends-known = λ f. k; room = unread-room (o .method) x v n s r e }
+
+  told-next : (x : Op) (v : Seen) (n : Named) → Standing (o .method) o x v n → Known x v → RoomBy (o .method) o (v .at) (x ∷ behind o x) → ToldBy x v
+  told-next GetConfiguration v n s k r =
+      subst (Told GetConfiguration v) (sym (named-profile p q (v .at .0 - leadFrames) all))
+      (record { passes = refl; knows = λ l y f. first-known y (cc); ends-known = λ f. clash (cc); room = same-room (o .method) (v .at) GetConfiguration _ refl r })
+    where
+      first-known : (y : Op) → ReadDiscInformation ≡ y → Known y (see (o .method) GetConfiguration (Profile p) v)
+      first-known y e = subst (λ (x : Op). Known x (see (o .method) GetConfiguration (Profile p) v)) e refl
+  told-next ReadDiscInformation v n s k r =
+      subst (Told ReadDiscInformation v) (sym (named-status 9 q (v .at .0 - leadFrames) all low-status))
+      (record { passes = refl; knows = λ l y f. all-known y _ (k, refl); ends-known = λ f. (k, refl); room = same-room (o .method) (v .at) ReadDiscInformation _ refl r })
+  told-next (ReadTrackInformation t) v n s k r =
+      subst (Told (ReadTrackInformation t) v) (sym (named-whole 9 q (v .at .0 - leadFrames) all))
+      (record {
+        passes = clear-passes (trackTests o (t .0) v (informed (v .at .0))) (clear-52 (o .method) refl t v n s r (k .0) (k .1));
+        knows = λ l y f. all-known y _ k;
+        ends-known = λ f. k;
+        room = start-room (o .method) t v _ (early (o .method) t v n _ s r) r;
+      })
+  told-next (ModeSelect t) v n s k r = told-unread (ModeSelect t) v n s k r refl
+  told-next SendCueSheet v n s k r = told-unread SendCueSheet v n s k r refl
+  told-next (Write t f c) v n s k r = told-unread (Write t f c) v n s k r refl
+  told-next (SynchronizeCache t) v n s k r = told-unread (SynchronizeCache t) v n s k r refl
+  told-next (CloseTrack t) v n s k r = told-unread (CloseTrack t) v n s k r refl
+  told-next CloseSession v n s k r = told-unread CloseSession v n s k r refl
+
+  -- ---- the exchanges that such replies lead to
+
+  data Stage (es : List Exchange) : Type 0 where
+    at-op : (x : Op) → left o es ≡ x ∷ behind o x → Standing (o .method) o x (seen (o .method) es) (named es) → Known x (seen (o .method) es) → RoomBy (o .method) o (seen (o .method) es .at) (x ∷ behind o x) → Stage es
+    over : left o es ≡ [] → Both (seen (o .method) es) → Stage es
+
+  record Packed (es : List Exchange) : Type 0 where
+    unrefused : firstRefused o es ≡ none
+    stage : Stage es
+
+  abbrev replyFor : List Op → Seen → Reply
+  replyFor [] v = replyTo GetConfiguration v
+  replyFor (x ∷ l) v = replyTo x v
+
+  abbrev reply : List Exchange → Reply
+  reply es = replyFor (left o es) (seen (o .method) es)
+
+  -- an operation is answered
+  answered : (es : List Exchange) (x : Op) → firstRefused o es ≡ none → left o es ≡ x ∷ behind o x → Standing (o .method) o x (seen (o .method) es) (named es) → Told x (seen (o .method) es) (reading x (replyTo x (seen (o .method) es))) → Packed (made o es x (replyTo x (seen (o .method) es)) ∷ es)
+  answered es x u e s t =
+      record {
+        unrefused = refused-next o es (made o es x (replyTo x (seen (o .method) es))) none u (t .passes);
+        stage = go (moved o x (seen (o .method) es) (named es) z s (replyTo x (seen (o .method) es)));
+      }
+    where
+      -- the reply passes, so what is left is what comes behind
+      passed-on : move (judged o es (made o es x (replyTo x (seen (o .method) es)))) (x ∷ behind o x) ≡ behind o x
+      passed-on = one-less x (behind o x) true _ (turn o es x (replyTo x (seen (o .method) es))) refl (t .passes)
+
+      then-left : left o (made o es x (replyTo x (seen (o .method) es)) ∷ es) ≡ behind o x
+      then-left = ap (move (judged o es (made o es x (replyTo x (seen (o .method) es))))) e ∙ passed-on
+
+      go : Moved o x (seen (o .method) es) (named es) (reading x (replyTo x (seen (o .method) es))) → Stage (made o es x (replyTo x (seen (o .method) es)) ∷ es)
+      go (on-to y a j m k) =
+          let f : behind o x ≡ y ∷ behind o y = sym passed-on ∙ m in
+          at-op y (then-left ∙ f) k (t .knows (behind o y) y f) (subst (λ (l : List Op). RoomBy (o .method) o (see (o .method) x (reading x (replyTo x (seen (o .method) es))) (seen (o .method) es) .at) l) f (t .room))
+      go (stops w a j) = absurd (none-found w (sym (t .passes) ∙ j))
+      go (ends a j m) = let f : behind o x ≡ [] = sym passed-on ∙ m in over (then-left ∙ f) (t .ends-known f)
+
+  packed-turn : (es : List Exchange) → Packed es → Packed (exchanged (ruled (pass o) es) (reply es) es)
+  packed-turn es i = go (i .stage)
+    where
+      go : Stage es → Packed (exchanged (ruled (pass o) es) (reply es) es)
+      go (at-op x e s k r) =
+          subst (λ (a : Ruling). Packed (exchanged a (reply es) es)) (sym (ruled-at o es (x ∷ behind o x) (i .unrefused) e))
+          (subst (λ (l : List Op). Packed (made o es x (replyFor l (seen (o .method) es)) ∷ es)) (sym e)
+          (answered es x (i .unrefused) e s (told-next x (seen (o .method) es) (named es) s k r)))
+      go (over e b) = subst (λ (a : Ruling). Packed (exchanged a (reply es) es)) (sym (ruled-at o es [] (i .unrefused) e)) i
+
+  -- ---- the replies, each after the rules' exchanges for those before it
+
+  abbrev replies : ℕ → List Reply
+  replies zero = []
+  replies (suc k) = replies k ++ (reply (play (pass o) [] (replies k)) ∷ [])
+
+  play-snoc : (rs : List Reply) (es : List Exchange) (y : Reply) → play (pass o) es (rs ++ (y ∷ [])) ≡ exchanged (ruled (pass o) (play (pass o) es rs)) y (play (pass o) es rs)
+  play-snoc [] es y = refl
+  play-snoc (x ∷ rs) es y = play-snoc rs (exchanged (ruled (pass o) es) x es) y
+
+  bytes-snoc : (rs : List Reply) (y : Reply) → AllBytes rs → Bytes (y .bytes) → AllBytes (rs ++ (y ∷ []))
+  bytes-snoc [] y h b = (b, tt)
+  bytes-snoc (x ∷ rs) y h b = (h .0, bytes-snoc rs y (h .1) b)
+
+  marked-snoc : (rs : List Reply) (y : Reply) → AllMarkedGood rs → y .good ≡ true → AllMarkedGood (rs ++ (y ∷ []))
+  marked-snoc [] y h b = (b, tt)
+  marked-snoc (x ∷ rs) y h b = (h .0, marked-snoc rs y (h .1) b)
+
+  reply-bytes : (l : List Op) (v : Seen) → Bytes (replyFor l v .bytes)
+  reply-bytes [] v = told-bytes GetConfiguration v
+  reply-bytes (x ∷ l) v = told-bytes x v
+
+  reply-good : (l : List Op) (v : Seen) → replyFor l v .good ≡ true
+  reply-good [] v = refl
+  reply-good (x ∷ l) v = refl
+
+  record Fine (k : ℕ) : Type 0 where
+    all-bytes : AllBytes (replies k)
+    marked : AllMarkedGood (replies k)
+    packed : Packed (play (pass o) [] (replies k))
+    enough : length (replies k) ≡ k
+
+  first-room : (m : Method) → RoomBy m o (record { 0 = 0 }) (script (by o m))
+  first-room Tao = let e = tracks-ahead (by o Tao) 0 in omega arith
+  first-room Sao = tt
+
+  fine : (k : ℕ) → Fine k
+  fine zero = record { all-bytes = tt; marked = tt; packed = record { unrefused = refl; stage = at-op GetConfiguration refl refl tt (first-room (o .method)) }; enough = refl }
+  fine (suc k) = more (fine k)
+    where
+      more : Fine k → Fine (suc k)
+      more i =
+          let es : List Exchange = play (pass o) [] (replies k) in
+          let n : length (replies k ++ (reply es ∷ [])) ≡ length (replies k) + 1 = length-append (replies k) (reply es ∷ []) in
+          let e = i .enough in
+          record {
+            all-bytes = bytes-snoc (replies k) (reply es) (i .all-bytes) (reply-bytes (left o es) (seen (o .method) es));
+            marked = marked-snoc (replies k) (reply es) (i .marked) (reply-good (left o es) (seen (o .method) es));
+            packed = subst Packed (sym (play-snoc (replies k) [] (reply es))) (packed-turn es (i .packed));
+            enough = omega arith;
+          }
+
+  -- after the exact count the job is done, so profile and status are known
+  at-last : (es : List Exchange) → left o es ≡ [] → Stage es → Both (seen (o .method) es)
+  at-last es e (at-op x f s k r) = clash (cc)
+  at-last es e (over f b) = b
+
+  all-left : (k : ℕ) (es : List Exchange) → k ≡ expected o → Progressed o k es → left o es ≡ []
+  all-left k es e (under-way x l n) = absurd (omega arith)
+  all-left k es e (at-end x l n) = done-left o es (as-done-done (ruled (pass o) es) x)
+    where
+      as-done-done : (a : Ruling) → ending a ≡ as-done → a ≡ done
+      as-done-done (issue c) q = clash (cc)
+      as-done-done done q = refl
+      as-done-done (stop w) q = clash (cc)
+
+  pub can-pass : (rs : List Reply) × Passing o p q rs
+  can-pass =
+      let i = fine (expected o) in
+      let es : List Exchange = play (pass o) [] (replies (expected o)) in
+      let b = at-last es (all-left (length (replies (expected o))) es (i .enough) (rule-good o (replies (expected o)) (z .all) (i .marked) (i .packed .unrefused))) (i .packed .stage) in
+      (replies (expected o), record { all-bytes = i .all-bytes; marked = i .marked; unrefused = i .packed .unrefused; enough = i .enough; of-profile = b .0; of-status = b .1 })

@@ -1,0 +1,204 @@
+-- What the job's parts come to, over its definitions alone.
+use mathlib.Core.Path.{_≡_, refl, sym, ap, _∙_}
+use mathlib.Core.Bool.{Bool, true, false, not}
+use mathlib.Core.List.{List, [], _∷_}
+use Prim.Native.Nat.{ℕ, zero, suc, _+_, _-_, _≤_, _<_, _^_}
+use native.Mathlib.Numerals.{add-one}
+use native.Mathlib.Omega.{arith}
+use borrow.Author.Tests.{ltb-true, leb-true, eqb-true, not-true, not-false}
+use lib.Dec.{eqb, leb, ltb}
+use lib.ListN.{length, getD, drop, List·getD-eq-default}
+use lib.Seq.{getD-drop}
+use Rattle.mmc.specs.Bytes.{if, be32}
+use Rattle.mmc.specs.Refusals.{refuse, numberOf, checked, valueOr}
+use Rattle.mmc.specs.Order.{mostTracks, noTrack, noOrder}
+use Rattle.mmc.specs.OrderBlock.{readOrder}
+use Rattle.mmc.specs.ReplyBlock.{replyOf}
+use Rattle.mmc.specs.declared.units.FrameCount.{FrameCount}
+use Rattle.mmc.specs.declared.order.Order.{Order}
+use Rattle.mmc.specs.declared.order.Track.{Track}
+use Rattle.mmc.specs.declared.order.Method.{Method}
+use Rattle.mmc.specs.declared.order.Method.the-variants.{Tao, Sao}
+use Rattle.mmc.specs.declared.refusals.Refusal.{Refusal}
+use Rattle.mmc.specs.declared.refusals.Check.{Check}
+use Rattle.mmc.specs.declared.refusals.Check.the-variants as C
+use Rattle.mmc.proofs.bytes.Steps.{Bytes, both}
+use Rattle.recorder.specs.declared.script.Op.{Op}
+use Rattle.recorder.specs.declared.script.Op.the-variants.{GetConfiguration, ReadDiscInformation, ReadTrackInformation, ModeSelect, SendCueSheet, Write, SynchronizeCache, CloseTrack, CloseSession}
+use Rattle.recorder.specs.declared.replies.TrackInformation.{TrackInformation}
+use Rattle.recorder.specs.declared.replies.Reading.{Reading}
+use Rattle.recorder.specs.declared.replies.Reading.the-variants.{Busy, Failed, Malformed, Profile, Status, Information, Unread}
+use Rattle.recorder.specs.declared.rules.Seen.{Seen}
+use Rattle.recorder.specs.declared.job.Progress.{Progress}
+use Rattle.recorder.specs.declared.job.Recorder.{Recorder}
+use Rattle.recorder.specs.Answers.{Why, because}
+use Rattle.recorder.specs.Replies.{isBusy, readFailed, wholeProfile, readProfile, wholeDisc, readStatus, wholeInformation, informationOf, readInformation, readGood, reading, UnsignedIn, ForTrack}
+use Rattle.recorder.specs.Script.{portion, trackIn, ofWrite}
+use Rattle.recorder.specs.Exchanges.{startAt, past, see}
+use Rattle.recorder.specs.Rules.{Judgement, onward, refused, Test, tested, still, leadOut, lastFrame, fits, openingTests, laterTests, judge}
+use Rattle.recorder.specs.Job.{pieceOf, blockAfter, inOrder, inTime, inPiece, isWrite, standsAt, standsIn, stands, Ready, endedAt, Next, goes, halt, turnOf, stepOf, unchanged, opening, takenAs, takeOf, giveOf}
+
+-- ---- the blocks of a piece
+
+-- past the last row there is no track
+pub no-row : (o : Order) (t : ℕ) → length (o .tracks) ≡ 99 → 99 < t → 0 ≡ pieceOf o t
+no-row o zero z h = absurd (omega arith)
+no-row o (suc t) z h = ap (λ (x : Track). x .length .0) (sym (List·getD-eq-default (o .tracks) noTrack {n = t} (omega arith)))
+
+pub row : (o : Order) (t : ℕ) → (t ≡ 0 → ⊥) → getD (o .tracks) (t - 1) noTrack .length .0 ≡ pieceOf o t
+row o zero n = absurd (n refl)
+row o (suc t) n = let e : suc t - 1 ≡ t = omega arith in rw e
+
+-- ---- the pieces of a place, and the test of it
+
+pub record Standing (o : Order) (s : Progress) (l k : ℕ) (b : Bool) : Type 0 where
+  pub length-is : l ≡ pieceOf o (trackIn (s .place))
+  pub next-is : k ≡ pieceOf o (suc (trackIn (s .place)))
+  pub test-is : b ≡ stands o s
+
+pub standing : (o : Order) (s : Progress) {t l k : ℕ} {b : Bool} → t ≡ trackIn (s .place) → l ≡ pieceOf o t → k ≡ pieceOf o (t + 1) → b ≡ standsIn (o .method) (o .count) l k (s .seen .at) (s .place) → Standing o s l k b
+standing o s e p q h =
+    let x = rw e at p in
+    let y = rw (add-one, e) at q in
+    record { length-is = x; next-is = y; test-is = rw (x, y) at h }
+
+-- ---- where the job stands, what comes after it is a number of 32 bits
+
+module _ (m : Method) (n l k : ℕ) (at : FrameCount) where
+  at-place : (x : Op) → standsIn m n l k at x ≡ true → standsAt m n l k at x ≡ true
+  unfolding standsIn
+  at-place x e = both (leb n mostTracks) _ (both (leb 1 n) _ e .1) .1
+
+  -- a WRITE ends in its piece, which ends in time
+  write-ends : (f c : ℕ) → isWrite l f c at ≡ true → (f + c ≤ l) × (at .0 + c ≤ lastFrame)
+  unfolding inTime isWrite
+  write-ends f c e =
+      let w = both (ltb f l) _ e in
+      let h : f < l = ltb-true _ _ (w .0) in
+      let p : c ≡ portion l f = eqb-true _ _ (both _ _ (w .1) .0) in
+      let q : at .0 + (l - f) ≤ lastFrame = leb-true _ _ (both (eqb c (portion l f)) _ (w .1) .1) in
+      (omega arith, omega arith)
+
+  -- so what is read off an operation where the job stands need hold only of a WRITE that ends so
+  by-write : {B : Type 0} (P : B → Type 0) (z : B) (g : ℕ → ℕ → ℕ → B) (x : Op) → standsIn m n l k at x ≡ true → P z → ((t f c : ℕ) → f + c ≤ l → at .0 + c ≤ lastFrame → P (g t f c)) → P (ofWrite z g x)
+  by-write P z g GetConfiguration e p q = p
+  by-write P z g ReadDiscInformation e p q = p
+  by-write P z g (ReadTrackInformation t) e p q = p
+  by-write P z g (ModeSelect t) e p q = p
+  by-write P z g SendCueSheet e p q = p
+  by-write P z g (Write t f c) e p q =
+      let w = write-ends (f .0) (c .0) (both (inPiece m n k (t .0)) _ (at-place (Write t f c) e) .1) in
+      q (t .0) (f .0) (c .0) (w .0) (w .1)
+  by-write P z g (SynchronizeCache t) e p q = p
+  by-write P z g (CloseTrack t) e p q = p
+  by-write P z g CloseSession e p q = p
+
+  pub block-fits : (x : Op) → standsIn m n l k at x ≡ true → l < 2 ^ 32 → blockAfter x < 2 ^ 32
+  block-fits x e h = by-write (λ (b : ℕ). b < 2 ^ 32) 0 (λ t f c. f + c) x e (omega arith) (λ t f c p q. omega arith)
+
+  past-fits : (x : Op) → standsIn m n l k at x ≡ true → at .0 < 2 ^ 32 → past x at .0 < 2 ^ 32
+  past-fits x e h = by-write (λ (a : FrameCount). a .0 < 2 ^ 32) at (λ t f c. record { 0 = at .0 + c }) x e h (λ t f c p q. omega arith)
+
+-- ---- where the judgement of a 52h has passed, its track begins in time
+
+-- no test applied
+abbrev Clear : List Test → Type 0
+Clear [] = Unit {0}
+Clear (t ∷ ts) = (t .applies ≡ false) × Clear ts
+
+onward-past : (b : Bool) (w : Why) (j : Judgement) → if b (refused w) j ≡ onward [] → (b ≡ false) × (j ≡ onward [])
+onward-past true w j e = (cc, cc)
+onward-past false w j e = (refl, e)
+
+clear : (ts : List Test) → tested ts ≡ onward [] → Clear ts
+clear [] e = tt
+clear (t ∷ ts) e = let w = onward-past (t .applies) (because (t .number)) (tested ts) e in (w .0, clear ts (w .1))
+
+fitting : (o : Order) (t : ℕ) (v : Seen) (i : TrackInformation) (first : Bool) → tested (if first (openingTests o t v i) (laterTests o t v i)) ≡ onward [] → fits (o .method) (still o t) i ≡ true
+fitting o t v i true e = not-false _ (clear (openingTests o t v i) e .1 .1 .1 .1 .1 .0)
+fitting o t v i false e = not-false _ (clear (laterTests o t v i) e .1 .0)
+
+start-fits : (m : Method) (blocks : ℕ) (at : FrameCount) (i : TrackInformation) → fits m blocks i ≡ true → at .0 < 2 ^ 32 → startAt m at i .0 < 2 ^ 32
+unfolding fits
+start-fits Tao blocks at i e h =
+    let k : leadOut Tao blocks i ≤ lastFrame = leb-true _ _ (both (leb blocks (i .free .0)) _ e .1) in
+    omega arith
+start-fits Sao blocks at i e h = h
+
+module _ (o : Order) (s : Progress) (h : s .seen .at .0 < 2 ^ 32) (e : stands o s ≡ true) where
+  pub seen-fits : (r : Reading) → judge o (s .seen) (s .place) r ≡ onward [] → see (o .method) (s .place) r (s .seen) .at .0 < 2 ^ 32
+  seen-fits Busy j = h
+  seen-fits (Failed x) j = h
+  seen-fits Malformed j = h
+  seen-fits (Profile p) j = h
+  seen-fits (Status q) j = h
+  seen-fits (Information i) j =
+      let t = trackIn (s .place) in
+      start-fits (o .method) (still o t) (s .seen .at) i (fitting o t (s .seen) i (eqb t 1) j) h
+  seen-fits Unread j = past-fits (o .method) (o .count) _ _ (s .seen .at) (s .place) e h
+
+-- ---- what a reply of bytes says where the job stands: an address of four bytes, for a track
+
+abbrev Sound : ℕ → Reading → Type 0
+Sound t r = UnsignedIn r × ForTrack t r
+
+sound-if : (t : ℕ) (b : Bool) (x y : Reading) → Sound t x → Sound t y → Sound t (if b x y)
+sound-if t true x y p q = p
+sound-if t false x y p q = q
+
+small : (d : List ℕ) (k : ℕ) → Bytes d → be32 (drop k d) < 2 ^ 32
+unfolding be32
+small d k h = simp getD-drop (omega (arith, h (k + 0), h (k + 1), h (k + 2), h (k + 3)))
+
+module _ (m : Method) (n l k : ℕ) (at : FrameCount) (d : List ℕ) (h : Bytes d) where
+  -- a 52h comes before a track of the order
+  sound-good : (x : Op) → standsAt m n l k at x ≡ true → Sound (trackIn x) (readGood x d)
+  unfolding inOrder readProfile readStatus readInformation informationOf
+  sound-good GetConfiguration e = sound-if 0 (wholeProfile d) _ _ (tt, tt) (tt, tt)
+  sound-good ReadDiscInformation e = sound-if 0 (wholeDisc d) _ _ (tt, tt) (tt, tt)
+  sound-good (ReadTrackInformation t) e = sound-if (t .0) (wholeInformation d) _ _ ((be32 (drop 12 d), (refl, small d 12 h)), leb-true 1 _ (both _ _ e .0)) (tt, tt)
+  sound-good (ModeSelect t) e = (tt, tt)
+  sound-good SendCueSheet e = (tt, tt)
+  sound-good (Write t f c) e = (tt, tt)
+  sound-good (SynchronizeCache t) e = (tt, tt)
+  sound-good (CloseTrack t) e = (tt, tt)
+  sound-good CloseSession e = (tt, tt)
+
+  pub sound : (x : Op) (good : Bool) → standsIn m n l k at x ≡ true → Sound (trackIn x) (reading x (replyOf good d))
+  unfolding readFailed
+  sound x good e = sound-if (trackIn x) good _ _ (sound-good x (at-place m n l k at x e)) (sound-if (trackIn x) (isBusy d) _ _ (tt, tt) (tt, tt))
+
+pub ready : (o : Order) (s : Progress) {l k : ℕ} {v : Bool} {r : Reading} (good : Bool) (d : List ℕ) → Standing o s l k v → not v ≡ false → Bytes d → r ≡ reading (s .place) (replyOf good d) → Ready o s l k r
+ready o s good d w h b e =
+    let p : stands o s ≡ true = sym (w .test-is) ∙ not-false _ h in
+    let q = sound (o .method) (o .count) _ _ (s .seen .at) d b (s .place) good p in
+    record { length-is = w .length-is; next-is = w .next-is; passes = p; unsigned = rw e (q .0); for-track = rw e (q .1) }
+
+-- ---- an order that is taken
+
+module _ (b : List ℕ) (o : Order) {k : Check} {x : Next} (e : checked k o ≡ readOrder b) (z : o ≡ valueOr noOrder (readOrder b)) where
+  pub taken-not : (r : Refusal) → k ≡ C.Refused r → x ≡ stepOf o opening 0 (halt (because (numberOf r))) → x ≡ takeOf b
+  unfolding takeOf
+  taken-not r h q =
+      let w : refuse (numberOf r) ≡ readOrder b = ap (λ (y : Check). checked y o) (sym h) ∙ e in
+      q ∙ ap (λ (y : Order). stepOf y opening 0 (halt (because (numberOf r)))) (z ∙ ap (valueOr noOrder) (sym w)) ∙ ap takenAs w
+
+  pub taken : k ≡ C.Passed → x ≡ stepOf o opening 0 (goes opening) → x ≡ takeOf b
+  unfolding takeOf
+  taken h q = q ∙ ap takenAs (ap (λ (y : Check). checked y o) (sym h) ∙ e)
+
+-- ---- a reply that is given, by the two tests: the job has ended, it can stand where it does
+
+module _ (r : Recorder) (good : Bool) (d : List ℕ) {x : Next} {w : Bool} (e : w ≡ endedAt (r .phase)) where
+  pub has-ended : w ≡ true → x ≡ unchanged r 13 → x ≡ giveOf r good d
+  unfolding giveOf
+  has-ended h q = rw (sym e ∙ h) q
+
+  module _ (h : w ≡ false) {v : Bool} (z : v ≡ stands (r .order) (r .progress)) where
+    pub fails : not v ≡ true → x ≡ unchanged r 3 → x ≡ giveOf r good d
+    unfolding giveOf
+    fails k q = rw (sym e ∙ h, sym z ∙ not-true v k) q
+
+    pub goes-on : not v ≡ false → x ≡ stepOf (r .order) (r .progress) (r .count) (turnOf (r .order) (r .progress) (reading (r .progress .place) (replyOf good d))) → x ≡ giveOf r good d
+    unfolding giveOf
+    goes-on k q = rw (sym e ∙ h, sym z ∙ not-false v k) q

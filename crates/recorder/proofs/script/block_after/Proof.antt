@@ -1,0 +1,33 @@
+use borrow.Author.Needs.{needs}
+use Rattle.recorder.proofs.script.block_after.Statement.{statement}
+use Rattle.recorder.proofs.script.block_after.Tie as tie
+
+add-result : tie.Need-add-result
+add-result c = let h = rw (c .before .before .before .op .given .1) at (c .before .before .before .before .before .pre) in search needs
+
+returns-6 : tie.Need-returns-6
+returns-6 c = rw (c .before .before .before .op .given .1)
+
+pub block-after-spec : {M : Type 1} → statement M
+block-after-spec =
+    tie.close
+    (tie.spec
+    (λ c. search needs)
+    (λ c. search needs)
+    (λ c. search needs)
+    (λ c. search needs)
+    (λ c. search needs)
+    (λ c. search needs)
+    add-result
+    (λ c. search needs)
+    (λ c. search needs)
+    (λ c. search needs)
+    (λ c. search needs)
+    (λ c. search needs)
+    (λ c. search needs)
+    (λ c. search needs)
+    (λ c. search needs)
+    returns-6
+    (λ c. search needs)
+    (λ c. search needs)
+    (λ c. search needs))
