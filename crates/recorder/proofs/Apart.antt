@@ -9,7 +9,6 @@ use lib.Dec.{ltb, eqb}
 use lib.ListN.{length, getD}
 use Rattle.mmc.specs.Bytes.{if}
 use Rattle.mmc.specs.Times.{framesTo}
-use Rattle.mmc.specs.ReplyBlock.{Reply}
 use Rattle.mmc.specs.declared.units.FrameCount.{FrameCount}
 use Rattle.mmc.specs.declared.order.Order.{Order}
 use Rattle.mmc.specs.declared.order.Method.{Method}

@@ -21,8 +21,8 @@ use Rattle.recorder.specs.Script.{stepwise, Block}
 use Rattle.recorder.specs.Exchanges.{Exchange, recorded, occupied, seen, named}
 use Rattle.recorder.specs.Rules.{none, found, refusal, ruled, exchanged, play, orderedIn, AllClosed}
 use Rattle.recorder.specs.Job.{Next, nextIn, commandOf, mostCommands, unchanged, validOf, takenAs, takeOf, giveOf}
-use Rattle.recorder.specs.History.{History, taken, given, givenAll, history, commandIn, commands, going, as-done, as-stop, ending, ended, Accompanied, EachFresh, FreshAnswer, AllMarkedGood, AllGood, Whole, OfHistory, Takes, Gives}
-use Rattle.recorder.proofs.Lists.{clash, if-no, false-true}
+use Rattle.recorder.specs.History.{History, taken, given, givenAll, history, commandIn, commands, going, as-done, as-stop, ending, ended, Accompanied, EachFresh, FreshAnswer, AllMarkedGood, AllGood, Whole, Takes, Gives}
+use Rattle.recorder.proofs.Lists.{clash, false-true}
 use Rattle.recorder.proofs.Turns.{played}
 use Rattle.recorder.proofs.Scripts.{script-length}
 use Rattle.recorder.proofs.Rulings.{ruled-at, rule-order, rule-done, rule-stop}

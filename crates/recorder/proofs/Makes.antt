@@ -2,17 +2,17 @@
 -- refuses none.
 use mathlib.Core.Path.{_≡_, refl, sym, ap, subst, _∙_}
 use mathlib.Core.Bool.{Bool, true, false, not, cond, _&&_}
-use mathlib.Core.List.{List, [], _∷_, _++_}
-use Prim.Native.Nat.{ℕ, zero, suc, _+_, _-_, _*_, _/_, _%_, _≤_, _<_}
+use mathlib.Core.List.{List, []}
+use Prim.Native.Nat.{ℕ, suc, _+_, _-_, _*_, _%_, _≤_, _<_}
 use native.Mathlib.Omega.{arith}
-use borrow.Author.Tests.{lt-ltb, le-leb, eq-eqb, leb-true, ltb-true, ltb-false, eqb-true}
+use borrow.Author.Tests.{lt-ltb, le-leb, eq-eqb, leb-true, ltb-true, eqb-true}
 use lib.Dec.{ltb, leb, eqb}
 use lib.IntN.{pos, negsuc}
 use lib.Signed.{leZ}
-use lib.ListN.{length, take, replicate}
+use lib.ListN.{length, replicate}
 use lib.Seq.{take-append-seam}
-use Rattle.mmc.specs.Bytes.{if, bytes32}
-use Rattle.mmc.specs.Refusals.{Outcome, pass, refuse, valueOr}
+use Rattle.mmc.specs.Bytes.{if}
+use Rattle.mmc.specs.Refusals.{Outcome, pass, valueOr}
 use Rattle.mmc.specs.Order.{mostTracks}
 use Rattle.mmc.specs.Times.{lastAddress, inRange, addressAt}
 use Rattle.mmc.specs.Sheet.{sheetSize}
@@ -33,13 +33,13 @@ use Rattle.recorder.specs.declared.replies.Reading.the-variants.{Unread}
 use Rattle.recorder.specs.declared.rules.Seen.{Seen}
 use Rattle.recorder.specs.declared.job.Progress.{Progress}
 use Rattle.recorder.specs.declared.job.Recorder.{Recorder}
-use Rattle.recorder.specs.Answers.{issue, sheetBytes, madeBy, madeFor, bytesOf, cdbOf, bytesIn}
+use Rattle.recorder.specs.Answers.{issue, sheetBytes, madeBy, madeFor, cdbOf, bytesIn}
 use Rattle.recorder.specs.Replies.{reading}
 use Rattle.recorder.specs.Script.{write, portion, trackIn, stepwise}
 use Rattle.recorder.specs.Exchanges.{see}
 use Rattle.recorder.specs.Rules.{lastFrame, Judgement, again, onward, refused, judge}
 use Rattle.recorder.specs.Job.{pieceEnded, beforeBlock, afterCloseTrack, opAfter, pieceOf, afterIn, commandOf, Turn, goes, finish, halt, advanced, turnBy, turnOf, stepOf, inOrder, inTime, inPiece, isWrite, standsAt, standsIn, stands, unchanged, endedAt, opening, giveOf}
-use Rattle.recorder.proofs.Lists.{if-yes, if-no, false-true, both, clash}
+use Rattle.recorder.proofs.Lists.{if-yes, false-true, both, clash}
 use Rattle.recorder.proofs.Turns.{Asks, a46, a51, a52, isAsking, Reads, busy, failed, malformed, profile, status, information, unread, reads}
 
 -- ---- what the makers need

@@ -1,12 +1,10 @@
 -- One reply to the operation that is due: the job goes where the rules go.
 use mathlib.Core.Path.{_≡_, refl, sym, ap, subst, _∙_}
 use mathlib.Core.Bool.{Bool, true, false}
-use mathlib.Core.List.{List, [], _∷_, _++_}
-use Prim.Native.Nat.{ℕ, suc, _≤_, _<_}
+use mathlib.Core.List.{List, [], _∷_}
+use Prim.Native.Nat.{ℕ, _≤_}
 use native.Mathlib.Omega.{arith}
-use lib.ListN.{length}
 use Rattle.mmc.specs.Bytes.{if}
-use Rattle.mmc.specs.Order.{tracksIn}
 use Rattle.mmc.specs.ReplyBlock.{Reply}
 use Rattle.mmc.specs.declared.order.Order.{Order}
 use Rattle.mmc.specs.declared.order.Method.{Method}
@@ -21,11 +19,10 @@ use Rattle.recorder.specs.declared.job.Progress.{Progress}
 use Rattle.recorder.specs.Answers.{Why, because}
 use Rattle.recorder.specs.Replies.{reading}
 use Rattle.recorder.specs.Exchanges.{Exchange, Named, see, seen, name, named}
-use Rattle.recorder.specs.Rules.{Judgement, onward, refused, Test, tested, trackTests, judge, judged, move, left, none, found, refusedBy, firstRefused}
-use Rattle.recorder.specs.Job.{pieceOf, afterIn, Turn, goes, finish, halt, advanced, turnBy, turnOf}
+use Rattle.recorder.specs.Rules.{Judgement, onward, refused, Test, tested, trackTests, judge, move, left, none, found, refusedBy, firstRefused}
+use Rattle.recorder.specs.Job.{afterIn, goes, finish, halt, advanced, turnBy, turnOf}
 use Rattle.recorder.proofs.Lists.{none-found, clash}
 use Rattle.recorder.proofs.Turns.{made, Played, nothing, then, Reads, busy, failed, malformed, profile, status, information, unread, reads}
-use Rattle.recorder.proofs.Scripts.{by}
 use Rattle.recorder.proofs.Rulings.{unrefused-last}
 use Rattle.recorder.proofs.Places.{Sized, behind, onto, Goes, GoesOn, goes-on}
 use Rattle.recorder.proofs.Standing.{long-at, InSession, Standing, StandingThen, stood}

@@ -1,16 +1,15 @@
 -- What of the script comes behind an operation, and that the operation after it, as the job finds it, is the first of that.
-use mathlib.Core.Path.{_≡_, refl, sym, ap, _∙_}
+use mathlib.Core.Path.{_≡_, refl, ap, _∙_}
 use mathlib.Core.Bool.{Bool, true, false}
 use mathlib.Core.List.{List, [], _∷_, _++_}
-use Prim.Native.Nat.{ℕ, zero, suc, _+_, _-_, _≤_, _<_}
+use Prim.Native.Nat.{ℕ, suc, _+_, _-_, _≤_, _<_}
 use native.Mathlib.Omega.{arith}
-use borrow.Author.Tests.{ltb-true, ltb-false, lt-ltb}
+use borrow.Author.Tests.{ltb-true, ltb-false}
 use lib.Dec.{ltb}
 use lib.ListN.{length, getD, drop, drop-of-length-le, length-take}
 use lib.Seq.{getD-take, drop-cons}
 use Rattle.mmc.specs.Bytes.{if}
 use Rattle.mmc.specs.Order.{mostTracks, noTrack, tracksIn, validOrder}
-use Rattle.mmc.specs.Times.{leadFrames}
 use Rattle.mmc.specs.declared.units.TrackNumber.{TrackNumber}
 use Rattle.mmc.specs.declared.order.Order.{Order}
 use Rattle.mmc.specs.declared.order.Track.{Track}
@@ -22,7 +21,6 @@ use Rattle.recorder.specs.declared.script.Following.{Following}
 use Rattle.recorder.specs.declared.script.Following.the-variants.{Next as Then, Nothing}
 use Rattle.recorder.specs.Script.{write, portion, writesFor, writes, writesFrom, beforeTracks, trackBy, eachTrack, script}
 use Rattle.recorder.specs.Job.{pieceEnded, beforeBlock, afterCloseTrack, pieceOf, afterIn}
-use Rattle.recorder.proofs.Lists.{if-yes, if-no}
 use Rattle.recorder.proofs.Scripts.{by}
 
 -- an order as it is read

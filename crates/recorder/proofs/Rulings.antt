@@ -3,13 +3,12 @@ use mathlib.Core.Path.{_≡_, refl, sym, ap, subst, _∙_}
 use mathlib.Core.Logic.{_↔_}
 use mathlib.Core.Bool.{Bool}
 use mathlib.Core.List.{List, [], _∷_, _++_, append-nil}
-use Prim.Native.Nat.{ℕ}
 use native.Mathlib.Omega.{arith}
 use lib.ListN.{length, length-append}
 use Rattle.mmc.specs.Refusals.{pass}
 use Rattle.mmc.specs.declared.order.Order.{Order}
 use Rattle.recorder.specs.declared.script.Op.{Op}
-use Rattle.recorder.specs.Answers.{Why, Ruling, done, stop}
+use Rattle.recorder.specs.Answers.{Why, done, stop}
 use Rattle.recorder.specs.Script.{gather, Block, ordered, blocksIn, closingIn, closings}
 use Rattle.recorder.specs.Exchanges.{Exchange, recorded, closed}
 use Rattle.recorder.specs.Rules.{Judgement, move, judged, left, Found, none, found, orElse, refusedBy, firstRefused, answerTo, ruled}

@@ -1,21 +1,18 @@
 -- Laws of the script: its length, its blocks, and that each of its operations is a closing command or comes before one.
 use mathlib.Core.Path.{_≡_, refl, sym, ap, _∙_}
 use mathlib.Core.List.{List, [], _∷_, _++_}
-use Prim.Native.Nat.{ℕ, zero, suc, _+_, _-_, _*_, _≤_, _<_}
+use Prim.Native.Nat.{ℕ, zero, suc, _+_, _-_, _*_, _≤_}
 use native.Mathlib.Omega.{arith}
-use lib.ListN.{length, getD, drop, length-append, length-take, length-drop}
-use lib.Seq.{getD-take, getD-drop, drop-drop, drop-cons}
-use Rattle.mmc.specs.Order.{mostTracks, noTrack, tracksIn, blocksOf}
+use lib.ListN.{length, length-append}
+use Rattle.mmc.specs.Order.{tracksIn}
 use Rattle.mmc.specs.Times.{leadFrames}
 use Rattle.mmc.specs.declared.order.Order.{Order}
 use Rattle.mmc.specs.declared.order.Track.{Track}
 use Rattle.mmc.specs.declared.order.Method.{Method}
 use Rattle.mmc.specs.declared.order.Method.the-variants.{Tao, Sao}
 use Rattle.recorder.specs.declared.script.Op.{Op}
-use Rattle.recorder.specs.declared.script.Op.the-variants.{GetConfiguration, ReadDiscInformation, ReadTrackInformation, ModeSelect, SendCueSheet, SynchronizeCache, CloseTrack, CloseSession}
-use Rattle.recorder.specs.Script.{gather, write, portion, writesFor, writes, writesFrom, beforeBy, trackBy, endBy, eachTrack, script, writesIn, expectedBy, expected, Block, blocks, blocksFrom, ordered, blocksIn, closingIn}
-use Rattle.recorder.specs.Rules.{still}
-use Rattle.recorder.specs.Job.{pieceOf}
+use Rattle.recorder.specs.declared.script.Op.the-variants.{GetConfiguration, ReadDiscInformation, ReadTrackInformation, ModeSelect, SendCueSheet, SynchronizeCache, CloseTrack}
+use Rattle.recorder.specs.Script.{gather, portion, writesFor, writes, writesFrom, eachTrack, script, writesIn, expectedBy, expected, Block, blocks, blocksFrom, ordered, blocksIn}
 use Rattle.recorder.proofs.Lists.{gather-append, blocks-split}
 use Rattle.recorder.proofs.Plans.{Unclosed, AllUnclosed, all-before}
 

@@ -4,15 +4,13 @@ use mathlib.Core.Bool.{Bool, true, false, not}
 use mathlib.Core.List.{List, [], _∷_}
 use Prim.Native.Nat.{ℕ, zero, suc, _+_, _-_, _≤_, _<_}
 use native.Mathlib.Omega.{arith}
-use borrow.Author.Tests.{ltb-true, ltb-false, leb-true, not-false, eq-eqb}
-use lib.Dec.{ltb, leb, eqb}
+use borrow.Author.Tests.{ltb-true, ltb-false, leb-true, not-false}
+use lib.Dec.{ltb, leb}
 use lib.ListN.{length, getD, drop}
 use lib.Seq.{drop-cons}
 use Rattle.mmc.specs.Bytes.{if}
 use Rattle.mmc.specs.Order.{leastBlocks, noTrack, tracksIn, allLong, blocksOf}
 use Rattle.mmc.specs.Times.{lastAddress, leadFrames, framesTo}
-use Rattle.mmc.specs.declared.units.BlockCount.{BlockCount}
-use Rattle.mmc.specs.declared.units.TrackNumber.{TrackNumber}
 use Rattle.mmc.specs.declared.order.Order.{Order}
 use Rattle.mmc.specs.declared.order.Track.{Track}
 use Rattle.mmc.specs.declared.order.Method.{Method}
@@ -23,17 +21,17 @@ use Rattle.recorder.specs.declared.script.Following.{Following}
 use Rattle.recorder.specs.declared.script.Following.the-variants.{Next as Then, Nothing}
 use Rattle.recorder.specs.declared.replies.TrackInformation.{TrackInformation}
 use Rattle.recorder.specs.declared.replies.Reading.{Reading}
-use Rattle.recorder.specs.declared.replies.Reading.the-variants.{Information, Unread}
+use Rattle.recorder.specs.declared.replies.Reading.the-variants.{Unread}
 use Rattle.recorder.specs.declared.rules.Seen.{Seen}
 use Rattle.recorder.specs.Script.{write, portion}
 use Rattle.recorder.specs.Exchanges.{Named, see, name}
 use Rattle.recorder.specs.Rules.{mixedOrKept, still, leadOut, lastFrame, fits, trackTests, judge, none, refusedBy}
 use Rattle.recorder.specs.Job.{pieceEnded, beforeBlock, afterCloseTrack, pieceOf, afterIn}
 use Rattle.recorder.proofs.Lists.{none-found, false-true, both, passed-clear}
-use Rattle.recorder.proofs.Turns.{isAsking, Reads, busy, failed, malformed, profile, status, information, unread}
+use Rattle.recorder.proofs.Turns.{isAsking, Reads, malformed, profile, status, information, unread}
 use Rattle.recorder.proofs.Scripts.{by}
 use Rattle.recorder.proofs.Apart.{Passed, passed}
-use Rattle.recorder.proofs.Places.{Sized, track-length, GoesOn}
+use Rattle.recorder.proofs.Places.{Sized, track-length}
 
 -- ---- the blocks of the tracks after the first t
 

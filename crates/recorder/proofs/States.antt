@@ -1,20 +1,19 @@
 -- What an operation that is due gives: the state passes the recorder's own test, a WRITE of a track at once is fresh, and the mode data
 -- and the cue sheet that go with a command are made.
-use mathlib.Core.Path.{_≡_, refl, sym, ap, subst, _∙_}
-use mathlib.Core.Bool.{Bool, true, false, not, _&&_, _||_}
-use mathlib.Core.List.{List, [], _∷_, _++_}
-use Prim.Native.Nat.{ℕ, zero, suc, _+_, _-_, _*_, _≤_, _<_}
+use mathlib.Core.Path.{_≡_, refl, ap, subst, _∙_}
+use mathlib.Core.Bool.{Bool, true, false, _&&_}
+use mathlib.Core.List.{List, [], _∷_}
+use Prim.Native.Nat.{ℕ, suc, _+_, _-_, _*_, _≤_, _<_}
 use native.Mathlib.Omega.{arith}
 use borrow.Author.Tests.{lt-ltb, le-leb, eq-eqb, ltb-true, ltb-false, not-false}
 use lib.Dec.{ltb, leb, eqb}
-use lib.ListN.{length, getD, length-append}
+use lib.ListN.{length}
 use Rattle.mmc.specs.Bytes.{if}
-use Rattle.mmc.specs.Refusals.{pass, refuse}
-use Rattle.mmc.specs.Order.{mostTracks, noTrack, tracksIn, orderKind, validOrder, allKind, allLong, blocksOf}
+use Rattle.mmc.specs.Refusals.{pass}
+use Rattle.mmc.specs.Order.{tracksIn, orderKind, validOrder, allKind, blocksOf}
 use Rattle.mmc.specs.Page.{modeBytes, keepsSao, modeData}
 use Rattle.mmc.specs.Sheet.{sheetFault, entry, leadIn, pauseOf, startOf, leadOut, trackEntries, sheetOf, cueSheet}
-use Rattle.mmc.specs.Times.{lastAddress, framesTo, addressAt}
-use Rattle.mmc.specs.declared.units.BlockCount.{BlockCount}
+use Rattle.mmc.specs.Times.{lastAddress}
 use Rattle.mmc.specs.declared.units.FrameCount.{FrameCount}
 use Rattle.mmc.specs.declared.units.TrackNumber.{TrackNumber}
 use Rattle.mmc.specs.declared.order.Order.{Order}
@@ -26,7 +25,7 @@ use Rattle.recorder.specs.declared.script.Op.{Op}
 use Rattle.recorder.specs.declared.script.Op.the-variants.{GetConfiguration, ReadDiscInformation, ReadTrackInformation, ModeSelect, SendCueSheet, Write, SynchronizeCache, CloseTrack, CloseSession}
 use Rattle.recorder.specs.declared.rules.Seen.{Seen}
 use Rattle.recorder.specs.Answers.{sheetBytes}
-use Rattle.recorder.specs.Script.{code, trackIn, write, stepwise}
+use Rattle.recorder.specs.Script.{trackIn, write, stepwise}
 use Rattle.recorder.specs.Exchanges.{Named}
 use Rattle.recorder.specs.Rules.{mixedOrKept, lastFrame}
 use Rattle.recorder.specs.Job.{pieceOf, commandOf, inOrder, inTime, inPiece, isWrite, standsAt, standsIn, stands}
@@ -34,7 +33,7 @@ use Rattle.recorder.specs.History.{Accompanied, FreshWrite}
 use Rattle.recorder.proofs.Lists.{if-yes, if-no, false-true, neither, frames-back}
 use Rattle.recorder.proofs.Scripts.{by}
 use Rattle.recorder.proofs.Places.{Sized, sized-by}
-use Rattle.recorder.proofs.Standing.{blocks-less, long-at, InOrder, InSession, InPiece, IsWrite, Standing}
+use Rattle.recorder.proofs.Standing.{blocks-less, long-at, InOrder, InSession, IsWrite, Standing}
 use Rattle.recorder.proofs.Moves.{at}
 
 -- ---- the recorder's own test

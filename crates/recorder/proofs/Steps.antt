@@ -6,23 +6,21 @@ use Prim.Native.Nat.{ℕ, suc, _+_, _≤_, _<_, min}
 use native.Mathlib.Omega.{arith}
 use lib.ListN.{length}
 use Rattle.mmc.specs.Refusals.{Outcome, pass}
-use Rattle.mmc.specs.ReplyBlock.{Reply, replyOf}
+use Rattle.mmc.specs.ReplyBlock.{Reply}
 use Rattle.mmc.specs.declared.order.Order.{Order}
 use Rattle.recorder.specs.declared.script.Op.{Op}
 use Rattle.recorder.specs.declared.answers.Command.{Command}
-use Rattle.recorder.specs.declared.replies.Reading.{Reading}
-use Rattle.recorder.specs.declared.rules.Seen.{Seen}
 use Rattle.recorder.specs.declared.job.Phase.{Phase}
 use Rattle.recorder.specs.declared.job.Phase.the-variants.{Going as Open, Finished, Stopped}
 use Rattle.recorder.specs.declared.job.Recorder.{Recorder}
-use Rattle.recorder.specs.Answers.{Why, because, Ruling, issue, done, stop, madeFor, bytesIn}
+use Rattle.recorder.specs.Answers.{because, Ruling, issue, done, stop, madeFor, bytesIn}
 use Rattle.recorder.specs.Replies.{reading}
 use Rattle.recorder.specs.Script.{stepwise}
 use Rattle.recorder.specs.Exchanges.{Exchange, seen, named}
-use Rattle.recorder.specs.Rules.{judge, judged, move, left, none, found, refusedBy, firstRefused, ruled, exchanged}
-use Rattle.recorder.specs.Job.{Next, commandOf, Turn, goes, finish, halt, turnOf, mostCommands, oneMore, stateOf, nextOf, stepOf, unchanged, stands, endedAt, validOf, giveOf}
+use Rattle.recorder.specs.Rules.{judged, move, left, none, found, refusedBy, firstRefused, ruled, exchanged}
+use Rattle.recorder.specs.Job.{Next, commandOf, Turn, goes, turnOf, mostCommands, oneMore, stateOf, nextOf, stepOf, unchanged, stands, endedAt, validOf, giveOf}
 use Rattle.recorder.specs.History.{History, given, commandIn, commands, Ending, going, as-done, as-stop, ending, sooner, ended, EachFresh}
-use Rattle.recorder.proofs.Lists.{clash, if-yes, if-no, false-true}
+use Rattle.recorder.proofs.Lists.{clash, if-yes, false-true}
 use Rattle.recorder.proofs.Turns.{made}
 use Rattle.recorder.proofs.Rulings.{refused-next, ruled-at, ruled-stop}
 use Rattle.recorder.proofs.Places.{Sized, behind}

@@ -6,11 +6,11 @@ use mathlib.Core.List.{List, [], _∷_, _++_}
 use Prim.Native.Nat.{ℕ, zero, suc, _+_, _-_, _*_, _/_, _%_, _≤_, _<_, max}
 use native.Mathlib.Omega.{arith}
 use borrow.Author.Tests.{le-ltb, le-leb, ltb-false, eqb-true, not-false}
-use lib.Dec.{ltb, leb, eqb, lit<}
+use lib.Dec.{leb, eqb, lit<}
 use lib.ListN.{length, drop, replicate, length-append}
 use Rattle.mmc.specs.Bytes.{if, be32}
 use Rattle.mmc.specs.Refusals.{pass}
-use Rattle.mmc.specs.Order.{noTrack, tracksIn, blocksOf}
+use Rattle.mmc.specs.Order.{tracksIn, blocksOf}
 use Rattle.mmc.specs.Times.{leadFrames, framesTo}
 use Rattle.mmc.specs.ReplyBlock.{Reply, replyOf}
 use Rattle.mmc.specs.declared.units.FrameCount.{FrameCount}
@@ -27,15 +27,14 @@ use Rattle.recorder.specs.declared.replies.Reading.the-variants.{Malform
 use Rattle.recorder.specs.declared.rules.Seen.{Seen}
 use Rattle.recorder.specs.Answers.{Ruling, issue, done, stop}
 use Rattle.recorder.specs.Replies.{wholeProfile, readProfile, wholeDisc, readStatus, wholeInformation, informationOf, readInformation, reading}
-use Rattle.recorder.specs.Script.{code, gather, write, countIn, stepwise, Block, blocks, blocksFrom, blocksIn, script, expected}
-use Rattle.recorder.specs.Exchanges.{Exchange, Named, see, seen, name, named}
-use Rattle.recorder.specs.Rules.{otherProfile, lastStatus, unsuitable, unusable, mixedOrKept, shortTrack, still, leadOut, lastFrame, fits, openingTests, laterTests, trackTests, judge, judged, move, left, none, refusedBy, firstRefused, answerTo, ruled, exchanged, play}
-use Rattle.recorder.specs.History.{going, as-done, ending, AllMarkedGood, Bytes, AllBytes, Passing, Recordable, Suitable}
-use Rattle.recorder.proofs.Lists.{if-yes, if-no, false-true, none-found, both, clash, Clear, clear-passes, blocks-length}
+use Rattle.recorder.specs.Script.{code, gather, write, blocks, blocksFrom, blocksIn, script, expected}
+use Rattle.recorder.specs.Exchanges.{Exchange, Named, see, seen, named}
+use Rattle.recorder.specs.Rules.{otherProfile, lastStatus, unsuitable, unusable, still, leadOut, lastFrame, fits, openingTests, laterTests, trackTests, judge, judged, move, left, none, refusedBy, firstRefused, ruled, exchanged, play}
+use Rattle.recorder.specs.History.{as-done, ending, AllMarkedGood, Bytes, AllBytes, Passing, Recordable, Suitable}
+use Rattle.recorder.proofs.Lists.{if-yes, false-true, none-found, clash, Clear, clear-passes, blocks-length}
 use Rattle.recorder.proofs.Turns.{made, isAsking, turn}
 use Rattle.recorder.proofs.Scripts.{by, each-blocks}
 use Rattle.recorder.proofs.Rulings.{refused-next, ruled-at, done-left}
-use Rattle.recorder.proofs.Apart.{past-count}
 use Rattle.recorder.proofs.Goods.{one-less, Progressed, under-way, at-end, rule-good}
 use Rattle.recorder.proofs.Places.{Sized, tracksFrom, behind, next-track}
 use Rattle.recorder.proofs.Standing.{blocksAfter, Standing}

@@ -4,9 +4,9 @@ use mathlib.Core.Path.{_≡_}
 use mathlib.Core.Logic.{_↔_}
 use mathlib.Core.Bool.{Bool, true, false}
 use mathlib.Core.List.{List, [], _∷_, _++_}
-use Prim.Native.Nat.{ℕ, suc, _+_, _-_, _≤_, _<_, min}
+use Prim.Native.Nat.{ℕ, _+_, _-_, _≤_, _<_, min}
 use lib.ListN.{length, getD}
-use Rattle.mmc.specs.Refusals.{Outcome, pass, refuse}
+use Rattle.mmc.specs.Refusals.{pass}
 use Rattle.mmc.specs.Order.{noTrack, tracksIn, allLong, blocksOf}
 use Rattle.mmc.specs.OrderBlock.{readOrder}
 use Rattle.mmc.specs.Page.{modeData}

@@ -2,7 +2,7 @@
 -- track, and the command count."
 use mathlib.Core.Path.{_≡_}
 use mathlib.Core.Bool.{Bool, true, false, not, _&&_}
-use mathlib.Core.List.{List, []}
+use mathlib.Core.List.{List}
 use Prim.Native.Nat.{ℕ, zero, suc, _+_, _-_, _^_, min}
 use lib.ListN.{getD}
 use lib.Dec.{ltb, leb, eqb}
