@@ -12,7 +12,7 @@ use Rattle.recorder.specs.declared.replies.TrackInformation.{TrackInform
 use Rattle.recorder.specs.declared.replies.Reading.{Reading}
 use Rattle.recorder.specs.declared.replies.Reading.the-variants.{Busy, Failed, Malformed, Profile, Status, Information, Unread}
 use Rattle.recorder.specs.declared.rules.Seen.{Seen}
-use Rattle.recorder.specs.Replies.{reading}
+use Rattle.recorder.specs.Replies.{reading, ofInformation}
 use Rattle.recorder.specs.Script.{trackIn, ofWrite, countIn, stepwise, Block, blocksIn, closingIn}
 
 -- "the commands given so far and the replies to them"
@@ -93,13 +93,7 @@ pub record Named : Type 0 where
   pub free : ℕ
 
 abbrev pub name : Op → Reading → Named → Named
-name x Busy n = n
-name x (Failed s) n = n
-name x Malformed n = n
-name x (Profile p) n = n
-name x (Status q) n = n
-name x (Information i) n = record { track = trackIn x; start = framesTo (i .address) .0; free = i .free .0 }
-name x Unread n = n
+name x r n = ofInformation n (λ i. record { track = trackIn x; start = framesTo (i .address) .0; free = i .free .0 }) r
 
 abbrev pub named : List Exchange → Named
 named [] = record { track = 0; start = 0; free = 0 }

@@ -101,25 +101,32 @@ readGood CloseSession d = Unread
 abbrev pub reading : Op → Reply → Reading
 reading x y = if (y .good) (readGood x (y .bytes)) (readFailed (y .bytes))
 
--- ---- what the inner routines ask for: an address of four bytes, of a reply for a track
+-- what belongs to track information, and what to any other reading
+abbrev pub ofInformation : {B : Type 0} → B → (TrackInformation → B) → Reading → B
+ofInformation z g Busy = z
+ofInformation z g (Failed s) = z
+ofInformation z g Malformed = z
+ofInformation z g (Profile p) = z
+ofInformation z g (Status q) = z
+ofInformation z g (Information i) = g i
+ofInformation z g Unread = z
+
+-- ---- what the inner routines ask for: of track information an address of four bytes, and a track
+
+abbrev pub OfInformation : (TrackInformation → Type 0) → Reading → Type 0
+OfInformation P Busy = Unit {0}
+OfInformation P (Failed s) = Unit {0}
+OfInformation P Malformed = Unit {0}
+OfInformation P (Profile p) = Unit {0}
+OfInformation P (Status q) = Unit {0}
+OfInformation P (Information i) = P i
+OfInformation P Unread = Unit {0}
 
 abbrev pub Unsigned : BlockAddress → Type 0
 Unsigned a = (n : ℕ) × ((a .0 ≡ pos n) × (n < 2 ^ 32))
 
 abbrev pub UnsignedIn : Reading → Type 0
-UnsignedIn Busy = Unit {0}
-UnsignedIn (Failed s) = Unit {0}
-UnsignedIn Malformed = Unit {0}
-UnsignedIn (Profile p) = Unit {0}
-UnsignedIn (Status q) = Unit {0}
-UnsignedIn (Information i) = Unsigned (i .address)
-UnsignedIn Unread = Unit {0}
+UnsignedIn r = OfInformation (λ i. Unsigned (i .address)) r
 
 abbrev pub ForTrack : ℕ → Reading → Type 0
-ForTrack t Busy = Unit {0}
-ForTrack t (Failed s) = Unit {0}
-ForTrack t Malformed = Unit {0}
-ForTrack t (Profile p) = Unit {0}
-ForTrack t (Status q) = Unit {0}
-ForTrack t (Information i) = 1 ≤ t
-ForTrack t Unread = Unit {0}
+ForTrack t r = OfInformation (λ i. 1 ≤ t) r

@@ -22,6 +22,7 @@ use Rattle.recorder.specs.declared.replies.Reading.the-variants.{Busy, F
 use Rattle.recorder.specs.declared.rules.Seen.{Seen}
 use Rattle.recorder.specs.declared.rules.Verdict.{Verdict}
 use Rattle.recorder.specs.declared.rules.Verdict.the-variants as D
+use Rattle.recorder.specs.Replies.{ofInformation}
 use Rattle.recorder.specs.Answers.{Why, because, drive-failed, Ruling, issue, done, stop}
 use Rattle.recorder.specs.Script.{trackIn, stepwise, Block, script, ordered, closings}
 use Rattle.recorder.specs.Exchanges.{Exchange, read, recorded, closed, seen}
@@ -119,15 +120,19 @@ trackTests o t v i = if (eqb t 1) (openingTests o t v i) (laterTests o t v i)
 
 -- ---- any reply to an operation, by what was seen before
 
--- "Busy: the same command again. Failed otherwise: the end, 12 with its triple." 4 "stops at once"
+-- what it leads to where no test is due: "Busy: the same command again. Failed otherwise: the end, 12 with its triple." 4 "stops at once"
+abbrev pub untested : Reading → Judgement
+untested Busy = again
+untested (Failed s) = refused (drive-failed s)
+untested Malformed = refused (because 4)
+untested (Profile p) = onward []
+untested (Status q) = onward []
+untested (Information i) = onward []
+untested Unread = onward []
+
+-- track information is tested
 abbrev pub judge : Order → Seen → Op → Reading → Judgement
-judge o v x Busy = again
-judge o v x (Failed s) = refused (drive-failed s)
-judge o v x Malformed = refused (because 4)
-judge o v x (Profile p) = onward []
-judge o v x (Status q) = onward []
-judge o v x (Information i) = tested (trackTests o (trackIn x) v i)
-judge o v x Unread = onward []
+judge o v x r = ofInformation (untested r) (λ i. tested (trackTests o (trackIn x) v i)) r
 
 -- an exchange, given those before it
 abbrev pub judged : Order → List Exchange → Exchange → Judgement

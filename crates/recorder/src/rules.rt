@@ -6,7 +6,7 @@ ghost use Rattle.mmc.specs.Times.{framesTo};
 ghost use Rattle.recorder.specs.Replies.{Unsigned, UnsignedIn, ForTrack};
 ghost use Rattle.recorder.specs.Script.{trackIn};
 ghost use Rattle.recorder.specs.Exchanges.{see, startAt};
-ghost use Rattle.recorder.specs.Rules.{otherProfile, unsuitable, unusable, mixedOrKept, fits, test, tested, trackTests, judgementIn, judge};
+ghost use Rattle.recorder.specs.Rules.{otherProfile, unsuitable, unusable, mixedOrKept, fits, test, tested, trackTests, judgementIn, untested, judge};
 use crate::replies::Reading;
 use crate::replies::Sense;
 use crate::replies::TrackInformation;
@@ -176,22 +176,31 @@ fn judge_track(o: Order, track: u16, v: Seen, i: TrackInformation) -> Verdict
     first_of(profile, status, unusable, order, short, full)
 }
 
-// Judges a reply to an operation.
-pub(crate) fn judge_reply(o: Order, op: Op, v: Seen, reading: Reading) -> Verdict
-    requires { ⌜ UnsignedIn reading ⌝ }
-    requires { ⌜ ForTrack (trackIn op) reading ⌝ }
-    ensures { λ r. ⌜ judgementIn r ≡ judge o v op reading ⌝ }
+// What a reply leads to where no test is due.
+fn verdict_of(reading: Reading) -> Verdict
+    ensures { λ r. ⌜ judgementIn r ≡ untested reading ⌝ }
 {
-    let track = track_of(op);
     match reading {
         Reading::Busy => Verdict::Again,
         Reading::Failed(x) => Verdict::Failed(x),
         Reading::Malformed => Verdict::Refused(Refusal::ReplyForm),
         Reading::Profile(_) => Verdict::Onward,
         Reading::Status(_) => Verdict::Onward,
-        Reading::Information(i) => judge_track(o, track, v, i),
+        Reading::Information(_) => Verdict::Onward,
         Reading::Unread => Verdict::Onward,
     }
+}
+
+// Judges a reply to an operation: track information is tested.
+pub(crate) fn judge_reply(o: Order, op: Op, v: Seen, reading: Reading) -> Verdict
+    requires { ⌜ UnsignedIn reading ⌝ }
+    requires { ⌜ ForTrack (trackIn op) reading ⌝ }
+    ensures { λ r. ⌜ judgementIn r ≡ judge o v op reading ⌝ }
+{
+    let Reading::Information(i) = reading else {
+        return verdict_of(reading);
+    };
+    judge_track(o, track_of(op), v, i)
 }
 
 // Where the next block goes once READ TRACK INFORMATION has passed.
