@@ -139,7 +139,7 @@ in-session o t f v n z i p = go (ltb f (pieceOf (by o Sao) t)) refl
 
 -- ---- after a 52h that passed
 
-limits : (m : Method) (s : ℕ) (i : TrackInformation) → not (fits m s i) ≡ false → (s ≤ i .free .0) × (leadOut m s i ≤ lastFrame)
+pub limits : (m : Method) (s : ℕ) (i : TrackInformation) → not (fits m s i) ≡ false → (s ≤ i .free .0) × (leadOut m s i ≤ lastFrame)
 unfolding fits
 limits m s i e = let p = both (leb s (i .free .0)) (leb (leadOut m s i) lastFrame) (not-false _ e) in (leb-true _ _ (p .0), leb-true _ _ (p .1))
 

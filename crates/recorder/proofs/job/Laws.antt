@@ -1,12 +1,12 @@
 -- What the job's parts come to, over its definitions alone.
 use mathlib.Core.Path.{_≡_, refl, sym, ap, _∙_}
 use mathlib.Core.Bool.{Bool, true, false, not}
-use mathlib.Core.List.{List, [], _∷_}
+use mathlib.Core.List.{List, []}
 use Prim.Native.Nat.{ℕ, zero, suc, _+_, _-_, _≤_, _<_, _^_}
 use native.Mathlib.Numerals.{add-one}
 use native.Mathlib.Omega.{arith}
-use borrow.Author.Tests.{ltb-true, leb-true, eqb-true, not-true, not-false}
-use lib.Dec.{eqb, leb, ltb}
+use borrow.Author.Tests.{leb-true, not-true, not-false}
+use lib.Dec.{leb}
 use lib.ListN.{length, getD, drop, List·getD-eq-default}
 use lib.Seq.{getD-drop}
 use Rattle.mmc.specs.Bytes.{if, be32}
@@ -22,21 +22,24 @@ use Rattle.mmc.specs.declared.order.Method.the-variants.{Tao, Sao}
 use Rattle.mmc.specs.declared.refusals.Refusal.{Refusal}
 use Rattle.mmc.specs.declared.refusals.Check.{Check}
 use Rattle.mmc.specs.declared.refusals.Check.the-variants as C
-use Rattle.mmc.proofs.bytes.Steps.{Bytes, both}
+use Rattle.mmc.proofs.bytes.Steps.{Bytes}
 use Rattle.recorder.specs.declared.script.Op.{Op}
 use Rattle.recorder.specs.declared.script.Op.the-variants.{GetConfiguration, ReadDiscInformation, ReadTrackInformation, ModeSelect, SendCueSheet, Write, SynchronizeCache, CloseTrack, CloseSession}
 use Rattle.recorder.specs.declared.replies.TrackInformation.{TrackInformation}
 use Rattle.recorder.specs.declared.replies.Reading.{Reading}
 use Rattle.recorder.specs.declared.replies.Reading.the-variants.{Busy, Failed, Malformed, Profile, Status, Information, Unread}
-use Rattle.recorder.specs.declared.rules.Seen.{Seen}
 use Rattle.recorder.specs.declared.job.Progress.{Progress}
 use Rattle.recorder.specs.declared.job.Recorder.{Recorder}
-use Rattle.recorder.specs.Answers.{Why, because}
+use Rattle.recorder.specs.Answers.{because}
 use Rattle.recorder.specs.Replies.{isBusy, readFailed, wholeProfile, readProfile, wholeDisc, readStatus, wholeInformation, informationOf, readInformation, readGood, reading, UnsignedIn, ForTrack}
-use Rattle.recorder.specs.Script.{portion, trackIn, ofWrite}
+use Rattle.recorder.specs.Script.{trackIn, ofWrite}
 use Rattle.recorder.specs.Exchanges.{startAt, past, see}
-use Rattle.recorder.specs.Rules.{Judgement, onward, refused, Test, tested, still, leadOut, lastFrame, fits, openingTests, laterTests, judge}
-use Rattle.recorder.specs.Job.{pieceOf, blockAfter, inOrder, inTime, inPiece, isWrite, standsAt, standsIn, stands, Ready, endedAt, Next, goes, halt, turnOf, stepOf, unchanged, opening, takenAs, takeOf, giveOf}
+use Rattle.recorder.specs.Rules.{onward, still, lastFrame, fits, trackTests, judge, refusedBy}
+use Rattle.recorder.specs.Job.{pieceOf, blockAfter, inOrder, inPiece, standsAt, standsIn, stands, Ready, endedAt, Next, goes, halt, turnOf, stepOf, unchanged, opening, takenAs, takeOf, giveOf}
+use Rattle.recorder.proofs.Lists.{both, passed-clear}
+use Rattle.recorder.proofs.Apart.{passed}
+use Rattle.recorder.proofs.Standing.{limits}
+use Rattle.recorder.proofs.Makes.{of-piece}
 
 -- ---- the blocks of a piece
 
@@ -51,13 +54,13 @@ row o (suc t) n = let e : suc t - 1 ≡ t = omega arith in rw e
 
 -- ---- the pieces of a place, and the test of it
 
-pub record Standing (o : Order) (s : Progress) (l k : ℕ) (b : Bool) : Type 0 where
+pub record Tested (o : Order) (s : Progress) (l k : ℕ) (b : Bool) : Type 0 where
   pub length-is : l ≡ pieceOf o (trackIn (s .place))
   pub next-is : k ≡ pieceOf o (suc (trackIn (s .place)))
   pub test-is : b ≡ stands o s
 
-pub standing : (o : Order) (s : Progress) {t l k : ℕ} {b : Bool} → t ≡ trackIn (s .place) → l ≡ pieceOf o t → k ≡ pieceOf o (t + 1) → b ≡ standsIn (o .method) (o .count) l k (s .seen .at) (s .place) → Standing o s l k b
-standing o s e p q h =
+pub tested-so : (o : Order) (s : Progress) {t l k : ℕ} {b : Bool} → t ≡ trackIn (s .place) → l ≡ pieceOf o t → k ≡ pieceOf o (t + 1) → b ≡ standsIn (o .method) (o .count) l k (s .seen .at) (s .place) → Tested o s l k b
+tested-so o s e p q h =
     let x = rw e at p in
     let y = rw (add-one, e) at q in
     record { length-is = x; next-is = y; test-is = rw (x, y) at h }
@@ -69,17 +72,7 @@ module _ (m : Method) (n l k : ℕ) (at : FrameCount) where
   unfolding standsIn
   at-place x e = both (leb n mostTracks) _ (both (leb 1 n) _ e .1) .1
 
-  -- a WRITE ends in its piece, which ends in time
-  write-ends : (f c : ℕ) → isWrite l f c at ≡ true → (f + c ≤ l) × (at .0 + c ≤ lastFrame)
-  unfolding inTime isWrite
-  write-ends f c e =
-      let w = both (ltb f l) _ e in
-      let h : f < l = ltb-true _ _ (w .0) in
-      let p : c ≡ portion l f = eqb-true _ _ (both _ _ (w .1) .0) in
-      let q : at .0 + (l - f) ≤ lastFrame = leb-true _ _ (both (eqb c (portion l f)) _ (w .1) .1) in
-      (omega arith, omega arith)
-
-  -- so what is read off an operation where the job stands need hold only of a WRITE that ends so
+  -- a WRITE ends in its piece, and this in time, so what is read off an operation where the job stands need hold only of such a one
   by-write : {B : Type 0} (P : B → Type 0) (z : B) (g : ℕ → ℕ → ℕ → B) (x : Op) → standsIn m n l k at x ≡ true → P z → ((t f c : ℕ) → f + c ≤ l → at .0 + c ≤ lastFrame → P (g t f c)) → P (ofWrite z g x)
   by-write P z g GetConfiguration e p q = p
   by-write P z g ReadDiscInformation e p q = p
@@ -87,8 +80,11 @@ module _ (m : Method) (n l k : ℕ) (at : FrameCount) where
   by-write P z g (ModeSelect t) e p q = p
   by-write P z g SendCueSheet e p q = p
   by-write P z g (Write t f c) e p q =
-      let w = write-ends (f .0) (c .0) (both (inPiece m n k (t .0)) _ (at-place (Write t f c) e) .1) in
-      q (t .0) (f .0) (c .0) (w .0) (w .1)
+      let w = of-piece l (f .0) (c .0) at (both (inPiece m n k (t .0)) _ (at-place (Write t f c) e) .1) in
+      let h = w .within in
+      let d = w .part in
+      let y = w .limit in
+      q (t .0) (f .0) (c .0) (omega arith) (omega arith)
   by-write P z g (SynchronizeCache t) e p q = p
   by-write P z g (CloseTrack t) e p q = p
   by-write P z g CloseSession e p q = p
@@ -101,28 +97,8 @@ module _ (m : Method) (n l k : ℕ) (at : FrameCount) where
 
 -- ---- where the judgement of a 52h has passed, its track begins in time
 
--- no test applied
-abbrev Clear : List Test → Type 0
-Clear [] = Unit {0}
-Clear (t ∷ ts) = (t .applies ≡ false) × Clear ts
-
-onward-past : (b : Bool) (w : Why) (j : Judgement) → if b (refused w) j ≡ onward [] → (b ≡ false) × (j ≡ onward [])
-onward-past true w j e = (cc, cc)
-onward-past false w j e = (refl, e)
-
-clear : (ts : List Test) → tested ts ≡ onward [] → Clear ts
-clear [] e = tt
-clear (t ∷ ts) e = let w = onward-past (t .applies) (because (t .number)) (tested ts) e in (w .0, clear ts (w .1))
-
-fitting : (o : Order) (t : ℕ) (v : Seen) (i : TrackInformation) (first : Bool) → tested (if first (openingTests o t v i) (laterTests o t v i)) ≡ onward [] → fits (o .method) (still o t) i ≡ true
-fitting o t v i true e = not-false _ (clear (openingTests o t v i) e .1 .1 .1 .1 .1 .0)
-fitting o t v i false e = not-false _ (clear (laterTests o t v i) e .1 .0)
-
-start-fits : (m : Method) (blocks : ℕ) (at : FrameCount) (i : TrackInformation) → fits m blocks i ≡ true → at .0 < 2 ^ 32 → startAt m at i .0 < 2 ^ 32
-unfolding fits
-start-fits Tao blocks at i e h =
-    let k : leadOut Tao blocks i ≤ lastFrame = leb-true _ _ (both (leb blocks (i .free .0)) _ e .1) in
-    omega arith
+start-fits : (m : Method) (blocks : ℕ) (at : FrameCount) (i : TrackInformation) → not (fits m blocks i) ≡ false → at .0 < 2 ^ 32 → startAt m at i .0 < 2 ^ 32
+start-fits Tao blocks at i e h = let k = limits Tao blocks i e .1 in omega arith
 start-fits Sao blocks at i e h = h
 
 module _ (o : Order) (s : Progress) (h : s .seen .at .0 < 2 ^ 32) (e : stands o s ≡ true) where
@@ -134,7 +110,7 @@ module _ (o : Order) (s : Progress) (h : s .seen .at .0 < 2 ^ 32) (e : stands o 
   seen-fits (Status q) j = h
   seen-fits (Information i) j =
       let t = trackIn (s .place) in
-      start-fits (o .method) (still o t) (s .seen .at) i (fitting o t (s .seen) i (eqb t 1) j) h
+      start-fits (o .method) (still o t) (s .seen .at) i (passed o t (s .seen) i (passed-clear (trackTests o t (s .seen) i) (ap refusedBy j)) .fitting) h
   seen-fits Unread j = past-fits (o .method) (o .count) _ _ (s .seen .at) (s .place) e h
 
 -- ---- what a reply of bytes says where the job stands: an address of four bytes, for a track
@@ -168,7 +144,7 @@ module _ (m : Method) (n l k : ℕ) (at : FrameCount) (d : List ℕ) (h : Bytes 
   unfolding readFailed
   sound x good e = sound-if (trackIn x) good _ _ (sound-good x (at-place m n l k at x e)) (sound-if (trackIn x) (isBusy d) _ _ (tt, tt) (tt, tt))
 
-pub ready : (o : Order) (s : Progress) {l k : ℕ} {v : Bool} {r : Reading} (good : Bool) (d : List ℕ) → Standing o s l k v → not v ≡ false → Bytes d → r ≡ reading (s .place) (replyOf good d) → Ready o s l k r
+pub ready : (o : Order) (s : Progress) {l k : ℕ} {v : Bool} {r : Reading} (good : Bool) (d : List ℕ) → Tested o s l k v → not v ≡ false → Bytes d → r ≡ reading (s .place) (replyOf good d) → Ready o s l k r
 ready o s good d w h b e =
     let p : stands o s ≡ true = sym (w .test-is) ∙ not-false _ h in
     let q = sound (o .method) (o .count) _ _ (s .seen .at) d b (s .place) good p in

@@ -2,7 +2,7 @@ use mathlib.Core.Path.{ap, _∙_}
 use Rattle.recorder.specs.declared.job.Recorder.{Recorder}
 use Rattle.recorder.specs.Job.{turnOf, stepOf}
 use Rattle.recorder.proofs.Histories.{gives}
-use Rattle.recorder.proofs.job.Laws.{Standing, standing, ready, has-ended, fails, goes-on}
+use Rattle.recorder.proofs.job.Laws.{Tested, tested-so, ready, has-ended, fails, goes-on}
 use borrow.Author.Needs.{needs}
 use Rattle.recorder.proofs.job.Recorder.give.Statement.{statement}
 use Rattle.recorder.proofs.job.Recorder.give.Tie as tie
@@ -11,8 +11,8 @@ abbrev self : tie.After-stands-in → Recorder
 self c = c .before .before .before .before .before .before .before .before .before .before .before .args .self
 
 -- the two pieces and the recorder's own test
-stood : (c : tie.After-stands-in) → Standing (self c .order) (self c .progress) (c .before .before .piece-length .result) (c .before .piece-length2 .result) (c .stands-in .result)
-stood c = standing (self c .order) (self c .progress) (c .before .before .before .track-of .ensures) (c .before .before .piece-length .ensures) (c .before .piece-length2 .ensures) (c .stands-in .ensures)
+stood : (c : tie.After-stands-in) → Tested (self c .order) (self c .progress) (c .before .before .piece-length .result) (c .before .piece-length2 .result) (c .stands-in .result)
+stood c = tested-so (self c .order) (self c .progress) (c .before .before .before .track-of .ensures) (c .before .before .piece-length .ensures) (c .before .piece-length2 .ensures) (c .stands-in .ensures)
 
 returns : tie.Need-returns
 returns c =

@@ -1,6 +1,6 @@
 use mathlib.Core.Path.{sym, _∙_}
 use Rattle.recorder.specs.Job.{validOf}
-use Rattle.recorder.proofs.job.Laws.{standing}
+use Rattle.recorder.proofs.job.Laws.{tested-so}
 use borrow.Author.Needs.{needs}
 use Rattle.recorder.proofs.job.Recorder.is_valid.Statement.{statement}
 use Rattle.recorder.proofs.job.Recorder.is_valid.Tie as tie
@@ -15,7 +15,7 @@ returns-2 c =
     let t = c .before .before .before in
     let k = t .before .before .before .before .before in
     let r = k .before .before .args .self in
-    rw (sym (k .before .is-ended .ensures) ∙ k .if1 .left) (standing (r .order) (r .progress) (t .track-of .ensures) (c .before .before .piece-length .ensures) (c .before .piece-length2 .ensures) (c .stands-in .ensures) .test-is)
+    rw (sym (k .before .is-ended .ensures) ∙ k .if1 .left) (tested-so (r .order) (r .progress) (t .track-of .ensures) (c .before .before .piece-length .ensures) (c .before .piece-length2 .ensures) (c .stands-in .ensures) .test-is)
 
 pub is-valid-spec : {M : Type 1} → statement M
 is-valid-spec =
