@@ -1,19 +1,34 @@
 -- Texts one behind the other, and lines in a lent buffer.
 use mathlib.Core.Path.{_≡_, refl, sym, ap, _∙_}
 use mathlib.Core.List.{List, _++_, append-assoc}
-use Prim.Native.Nat.{ℕ, _+_, _-_, _≤_}
+use Prim.Native.Nat.{ℕ, _+_, _-_, _≤_, min}
+use native.Mathlib.Nat.{min-eq-left, min-eq-right}
+use native.Mathlib.Decide.{decLe}
 use native.Mathlib.Omega.{arith}
 use lib.ListN.{length, take, drop, length-append}
-use lib.Seq.{length-take-le, take-at}
+use lib.Seq.{length-take-le, take-all, take-at}
 use Rattle.mmc.specs.Bytes.{putAt}
 use Rattle.mmc.specs.Refusals.{pass, Fills}
 use Rattle.mmc.specs.declared.refusals.Made.{Made}
+use Rattle.recorder.specs.Answers.{bytesIn}
+use Rattle.recorder.specs.declared.answers.Cdb.{Cdb}
 use Rattle.lines.specs.Text.{Adds}
 use Rattle.lines.specs.Lines.{longest, Writes}
 
 -- a part from the start on
 pub from-start : (k : ℕ) (s : List ℕ) → take (k - 0) (drop 0 s) ≡ take k s
 from-start k s = let e : k - 0 ≡ k = omega arith in rw e
+
+-- as many bytes as a command has, but no more than twelve, are its bytes
+pub used-bytes : (k : Cdb) (e : ℕ) → length (k .bytes) ≡ 12 → e ≡ min (k .length) 12 → (e ≤ length (k .bytes)) × (take (e - 0) (drop 0 (k .bytes)) ≡ bytesIn k)
+used-bytes k e n h = of (decLe (k .length) 12)
+  where
+    of : Dec (k .length ≤ 12) → (e ≤ length (k .bytes)) × (take (e - 0) (drop 0 (k .bytes)) ≡ bytesIn k)
+    of (yes l) = let m : e ≡ k .length = h ∙ min-eq-left l in (omega arith, from-start e (k .bytes) ∙ rw m)
+    of (no l) =
+        let j : 12 ≤ k .length = omega arith in
+        let m : e ≡ 12 = h ∙ min-eq-right j in
+        (omega arith, from-start e (k .bytes) ∙ take-all e (k .bytes) (omega arith) ∙ sym (take-all (k .length) (k .bytes) (omega arith)))
 
 -- what stands behind the first a bytes says where it ends
 pub adds : (x y s : List ℕ) (a b : ℕ) → a ≤ length x → b ≤ length y → take b y ≡ take a x ++ s → Adds s a x b y

@@ -4,7 +4,8 @@ use Prim.Native.Nat.{ℕ, _≤_}
 use lib.ListN.{length}
 use Rattle.mmc.specs.Refusals.{pass, Fills}
 use Rattle.mmc.specs.declared.refusals.Made.{Made}
-use Rattle.recorder.specs.Answers.{because, drive-failed, Ruling, issue, done, stop}
+use Rattle.recorder.specs.Answers.{because, drive-failed, Ruling, issue, done, stop, bytesIn}
+use Rattle.recorder.specs.declared.answers.Cdb.{Cdb}
 use Rattle.recorder.specs.declared.replies.Sense.{Sense}
 use Rattle.lines.specs.Text.{codes, parted, decimal}
 
@@ -33,12 +34,12 @@ stopLine r n = stopText r n ++ codes "\n"
 unfoldable pub failedLine : Sense → ℕ → List ℕ
 failedLine s n = stopText 12 n ++ codes " " ++ parted (s .key ∷ s .asc ∷ s .ascq ∷ []) ++ codes "\n"
 
--- the line of an answer, with the bytes of its command and the count
-abbrev pub lineOf : Ruling → List ℕ → ℕ → List ℕ
-lineOf (issue c) bytes n = commandLine bytes
-lineOf done bytes n = doneLine n
-lineOf (stop (because r)) bytes n = stopLine r n
-lineOf (stop (drive-failed s)) bytes n = failedLine s n
+-- the line of an answer, with its command's descriptor block and the count: the bytes of the command, not the zeros behind them
+abbrev pub lineOf : Ruling → Cdb → ℕ → List ℕ
+lineOf (issue c) k n = commandLine (bytesIn k)
+lineOf done k n = doneLine n
+lineOf (stop (because r)) k n = stopLine r n
+lineOf (stop (drive-failed s)) k n = failedLine s n
 
 -- a lent buffer of so many bytes is long enough for any line
 abbrev pub longest : ℕ

@@ -2,7 +2,7 @@
 mod text;
 
 ghost use mathlib.Core.Path.{_≡_};
-ghost use Prim.Native.Nat.{_≤_};
+ghost use Prim.Native.Nat.{_≤_, min};
 ghost use lib.ListN.{length};
 ghost use Rattle.mmc.specs.Refusals.{numberOf};
 ghost use Rattle.recorder.specs.Answers.{said};
@@ -16,12 +16,13 @@ use mmc::bytes::fill;
 use mmc::refusals::Made;
 use mmc::refusals::Refusal;
 use mmc::refusals::number;
-use recorder::job::Answer;
+use recorder::answers::Answer;
+use recorder::answers::Cdb;
 use recorder::replies::Sense;
 
 // A command's bytes.
 fn command_line(bytes: &[u8], out: &mut [u8]) -> Made
-    requires { ⌜ length (now bytes) ≡ 10 ⌝ }
+    requires { ⌜ length (now bytes) ≤ 12 ⌝ }
     ensures { λ r. ⌜ Writes (commandLine (now (bytes .entry))) r (now (out .entry)) (now (out .exit)) ⌝ }
 {
     let mut line = [0u8; 64];
@@ -83,12 +84,22 @@ fn failed_line(sense: Sense, count: u64, out: &mut [u8]) -> Made
     fill(&line[0..end], out)
 }
 
-// The line of an answer: the command's bytes, or the end with the count of commands.
-pub fn answer_line(answer: Answer, bytes: [u8; 10], count: u64, out: &mut [u8]) -> Made
-    ensures { λ r. ⌜ Writes (lineOf (said answer) bytes count) r (now (out .entry)) (now (out .exit)) ⌝ }
+// How many bytes a command has, at most the twelve that are there.
+fn used(cdb: Cdb) -> usize
+    ensures { λ r. ⌜ r ≡ min (cdb .length) 12 ⌝ }
 {
+    let length = cdb.length;
+    if length < 12 { length } else { 12 }
+}
+
+// The line of an answer: the command's bytes, or the end with the count of commands.
+pub fn answer_line(answer: Answer, cdb: Cdb, count: u64, out: &mut [u8]) -> Made
+    ensures { λ r. ⌜ Writes (lineOf (said answer) cdb count) r (now (out .entry)) (now (out .exit)) ⌝ }
+{
+    let bytes = cdb.bytes;
+    let end = used(cdb);
     match answer {
-        Answer::Issue(_) => command_line(&bytes, out),
+        Answer::Issue(_) => command_line(&bytes[0..end], out),
         Answer::Done => counted_line(b"done ", count, out),
         Answer::Stop(refusal) => stop_line(refusal, count, out),
         Answer::DriveFailed(sense) => failed_line(sense, count, out),

@@ -46,9 +46,12 @@ fn hex_digit(d: u8) -> u8
 
 // Writes bytes in hex, parted by spaces.
 pub(crate) fn add_hex(out: &mut [u8], at: usize, bytes: &[u8]) -> usize
-    requires { ⌜ (0 < length (now bytes)) × (at + 3 * length (now bytes) ≤ length (now out)) ⌝ }
+    requires { ⌜ at + 3 * length (now bytes) ≤ length (now out) ⌝ }
     ensures { λ r. ⌜ (Adds (parted (now (bytes .entry))) at (now (out .entry)) r (now (out .exit))) × (r ≤ at + 3 * length (now (bytes .entry))) ⌝ }
 {
+    if bytes.len() == 0 {
+        return at;
+    }
     let last = bytes.len() - 1;
     let mut end = at;
     let mut i: usize = 0;

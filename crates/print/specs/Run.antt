@@ -12,6 +12,7 @@ use Rattle.mmc.specs.declared.refusals.Made.{Made}
 use Rattle.mmc.specs.declared.refusals.Made.the-variants as M
 use Rattle.recorder.specs.Answers.{Ruling, issue, done, stop}
 use Rattle.recorder.specs.Job.{Next, unchanged, takeOf, giveOf}
+use Rattle.recorder.specs.declared.answers.Cdb.{Cdb}
 use Rattle.recorder.specs.declared.job.Recorder.{Recorder}
 use Rattle.lines.specs.Lines.{longest, lineOf, waitingLine}
 use Rattle.print.specs.declared.run.Run.{Run}
@@ -43,7 +44,7 @@ pub record Stage : Type 0 where
 
 -- the line of an answer goes behind the text
 abbrev pub answeredOf : Next → List ℕ → Stage
-answeredOf n text = record { state = n .state; waiting = waits (n .answer); text = text ++ lineOf (n .answer) (n .bytes) (n .count) }
+answeredOf n text = record { state = n .state; waiting = waits (n .answer); text = text ++ lineOf (n .answer) (n .cdb) (n .count) }
 
 abbrev pub repliedTo : Stage → List ℕ → Stage
 repliedTo g b = answeredOf (repliedOf (g .state) (readReply b)) (g .text)
@@ -116,9 +117,9 @@ abbrev pub stageIn : Run → List ℕ → Stage
 stageIn r buffer = record { state = r .state; waiting = r .waiting; text = take (r .used) buffer }
 
 -- what the maker of a line promises: whether a reply is awaited then, the line behind the text, and how much of the buffer is used at most
-pub record AddsLine (a : Ruling) (bytes : List ℕ) (count used : ℕ) (before : List ℕ) (r : Line) (after : List ℕ) : Type 0 where
+pub record AddsLine (a : Ruling) (k : Cdb) (count used : ℕ) (before : List ℕ) (r : Line) (after : List ℕ) : Type 0 where
   pub waiting : r .waiting ≡ waits a
-  pub text : take (r .used) after ≡ take used before ++ lineOf a bytes count
+  pub text : take (r .used) after ≡ take used before ++ lineOf a k count
   pub room : r .used ≤ used + longest
 
 -- 64 bytes for the line of each block of an input of n bytes

@@ -11,7 +11,8 @@ use mmc::refusals::Made;
 use mmc::reply_block::ReplyRead;
 use mmc::reply_block::read_reply;
 use mmc::reply_block::reply_data;
-use recorder::job::Answer;
+use recorder::answers::Answer;
+use recorder::answers::Cdb;
 use recorder::job::Recorder;
 use recorder::job::Step;
 use recorder::job::take;
@@ -63,17 +64,20 @@ fn replied(state: Recorder, block: &[u8]) -> Step
             state: state,
             answer: Answer::Stop(r),
             count: state.count,
-            bytes: [0; 10],
+            cdb: Cdb {
+                bytes: [0; 12],
+                length: 0,
+            },
         },
     }
 }
 
 // Writes the line of an answer behind the text.
-fn add_line(answer: Answer, bytes: [u8; 10], count: u64, used: usize, text: &mut [u8]) -> Line
+fn add_line(answer: Answer, cdb: Cdb, count: u64, used: usize, text: &mut [u8]) -> Line
     requires { ⌜ used + 64 ≤ length (now text) ⌝ }
-    ensures { λ r. ⌜ AddsLine (said answer) bytes count used (now (text .entry)) r (now (text .exit)) ⌝ }
+    ensures { λ r. ⌜ AddsLine (said answer) cdb count used (now (text .entry)) r (now (text .exit)) ⌝ }
 {
-    let made = lines::answer_line(answer, bytes, count, &mut text[used..]);
+    let made = lines::answer_line(answer, cdb, count, &mut text[used..]);
     Line {
         waiting: is_command(answer),
         used: used + written(made),
@@ -88,8 +92,8 @@ fn next_block(run: Run, block: &[u8], text: &mut [u8]) -> Run
     let state = run.state;
     let step = replied(state, block);
     let answer = step.answer;
-    let bytes = step.bytes;
-    let line = add_line(answer, bytes, step.count, run.used, text);
+    let cdb = step.cdb;
+    let line = add_line(answer, cdb, step.count, run.used, text);
     let next = step.state;
     Run {
         state: next,
@@ -132,8 +136,8 @@ pub(crate) fn begin(input: &[u8], text: &mut [u8]) -> Run
     let end = block_end(input.len(), 0);
     let step = take(&input[0..end]);
     let answer = step.answer;
-    let bytes = step.bytes;
-    let line = add_line(answer, bytes, step.count, 0, text);
+    let cdb = step.cdb;
+    let line = add_line(answer, cdb, step.count, 0, text);
     let state = step.state;
     let run = Run {
         state: state,

@@ -1,60 +1,37 @@
 use borrow.Author.Needs.{needs}
+use mathlib.Core.Path.{_≡_}
+use Prim.Native.Nat.{_-_, _≤_}
+use native.Mathlib.Omega.{arith}
+use lib.ListN.{length, take, drop}
+use Rattle.recorder.specs.Answers.{bytesIn}
 use Rattle.lines.specs.Text.{codes}
 use Rattle.lines.specs.Lines.{doneLine}
+use Rattle.lines.proofs.Laws.{used-bytes}
 use Rattle.lines.proofs.answer_line.Statement.{statement}
 use Rattle.lines.proofs.answer_line.Tie as tie
 
-enum-told : tie.Need-enum-told
-enum-told c = search needs
+-- the part that is handed on lies in the twelve bytes, and has the command's
+part : (c : tie.After-used) → (c .used .result ≤ length (c .before .before .before .args .cdb .bytes)) × (take (c .used .result - 0) (drop 0 (c .before .before .before .args .cdb .bytes)) ≡ bytesIn (c .before .before .before .args .cdb))
+part c = used-bytes (c .before .before .before .args .cdb) (c .used .result) (search needs) (c .used .ensures)
 
-slice-aggregate-command-line : tie.Need-slice-aggregate-command-line
-slice-aggregate-command-line c = search needs
+part-command-line-end : tie.Need-part-command-line-end
+part-command-line-end c = part (c .before .before .before) .0
 
 command-line-requires : tie.Need-command-line-requires
-command-line-requires c κs = search needs
-
-enum-told-2 : tie.Need-enum-told-2
-enum-told-2 c = search needs
-
-slice-aggregate-counted-line : tie.Need-slice-aggregate-counted-line
-slice-aggregate-counted-line c = search needs
-
-counted-line-requires : tie.Need-counted-line-requires
-counted-line-requires c κs = search needs
-
-enum-known-answer : tie.Need-enum-known-answer
-enum-known-answer c = search needs
-
-stop-line-requires : tie.Need-stop-line-requires
-stop-line-requires c κs = search needs
-
-enum-known-answer-2 : tie.Need-enum-known-answer-2
-enum-known-answer-2 c = search needs
-
-failed-line-requires : tie.Need-failed-line-requires
-failed-line-requires c κs = search needs
-
-same-length : tie.Need-same-length
-same-length c = search needs
+command-line-requires c κs = omega (arith, part (c .before .before .before .before .before))
 
 returns : tie.Need-returns
-returns c = rw (c .before .before .before .before .before .enum-told .given .1) (c .before .before .command-line .ensures)
-
-same-length-2 : tie.Need-same-length-2
-same-length-2 c = search needs
+returns c =
+    let l = c .before .before in
+    let t = l .before .before .before .before in
+    rw (t .enum-told .given .1, ← part (t .before .before) .1) (l .command-line .ensures)
 
 returns-2 : tie.Need-returns-2
 unfolding codes doneLine
 returns-2 c = rw (c .before .before .before .before .before .enum-told2 .given .1) (c .before .before .counted-line .ensures)
 
-same-length-3 : tie.Need-same-length-3
-same-length-3 c = search needs
-
 returns-3 : tie.Need-returns-3
 returns-3 c = rw (c .before .before .before .before .before .answer .given .1) (c .before .before .stop-line .ensures)
-
-same-length-4 : tie.Need-same-length-4
-same-length-4 c = search needs
 
 returns-4 : tie.Need-returns-4
 returns-4 c = rw (c .before .before .before .before .before .answer2 .given .1) (c .before .before .failed-line .ensures)
@@ -63,21 +40,24 @@ pub answer-line-spec : {M : Type 1} → statement M
 answer-line-spec =
     tie.close
     (tie.spec
-    enum-told
-    slice-aggregate-command-line
+    (λ c κs. search needs)
+    (λ c. search needs)
+    (λ c. search needs)
+    (λ c. search needs)
+    part-command-line-end
     command-line-requires
-    enum-told-2
-    slice-aggregate-counted-line
-    counted-line-requires
-    enum-known-answer
-    stop-line-requires
-    enum-known-answer-2
-    failed-line-requires
-    same-length
+    (λ c. search needs)
+    (λ c. search needs)
+    (λ c κs. search needs)
+    (λ c. search needs)
+    (λ c κs. search needs)
+    (λ c. search needs)
+    (λ c κs. search needs)
+    (λ c. search needs)
     returns
-    same-length-2
+    (λ c. search needs)
     returns-2
-    same-length-3
+    (λ c. search needs)
     returns-3
-    same-length-4
+    (λ c. search needs)
     returns-4)

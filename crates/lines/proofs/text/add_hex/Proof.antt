@@ -6,7 +6,7 @@ use borrow.Author.Needs.{needs}
 use lib.ListN.{length, take, drop}
 use Rattle.lines.specs.Text.{parted}
 use Rattle.lines.proofs.Laws.{adds, put-adds}
-use Rattle.lines.proofs.text.Hex.{hex-next, hex-last}
+use Rattle.lines.proofs.text.Hex.{hex-none, hex-next, hex-last}
 use Rattle.lines.proofs.text.add_hex.Statement.{statement}
 use Rattle.lines.proofs.text.add_hex.Tie as tie
 
@@ -15,6 +15,9 @@ Inv-loop out₀ at bytes last end₀ i₀ out end i = (i ≤ last) × (end ≡ a
 
 abbrev μ-loop : tie.MeasureT-loop
 μ-loop out₀ at bytes last end₀ i₀ out end i = last - i
+
+returns : tie.Need-returns Inv-loop μ-loop
+returns c = (hex-none _ _ _ (omega arith), omega arith)
 
 sub-last : tie.Need-sub-last Inv-loop μ-loop
 sub-last c = omega arith
@@ -51,7 +54,7 @@ loop-again c =
     let p = c .before .before in
     let h = p .before .before .before in
     let l = h .before .before .before .before in
-    let a = l .before .before .before .args in
+    let a = l .before .before .before .before .args in
     let three = h .before .hex-digit .result ∷ h .hex-digit2 .result ∷ 32 ∷ [] in
     let t : take (l .loop .end + 3) (p .put .last .0) ≡ take (l .loop .end) (l .loop .out) ++ three = rw (p .put .ensures) (put-adds (l .loop .out) three (l .loop .end) (omega arith) .text) in
     (omega arith, omega arith, p .put .kept .0 ∙ l .loop .inv .2, rw t (hex-next (a .bytes .now) (take (l .loop .end) (l .loop .out)) (l .loop .i) _ _ (omega arith) (h .before .hex-digit .ensures) (h .hex-digit2 .ensures)) ∙ l .loop .inv .3)
@@ -62,7 +65,7 @@ shared-slice-read-b-2 c = omega arith
 hex-digit-requires-3 : tie.Need-hex-digit-requires-3 Inv-loop μ-loop
 hex-digit-requires-3 c κs =
     let l = c .before .before in
-    omega (arith, c .shared-slice-known3 .given (length (l .before .before .before .args .bytes .now) - 1))
+    omega (arith, c .shared-slice-known3 .given (length (l .before .before .before .before .args .bytes .now) - 1))
 
 hex-digit-requires-4 : tie.Need-hex-digit-requires-4 Inv-loop μ-loop
 hex-digit-requires-4 c κs = omega arith
@@ -79,12 +82,12 @@ add-result c = omega arith
 same-length : tie.Need-same-length Inv-loop μ-loop
 same-length c = c .before .before .put2 .kept .0 ∙ c .before .before .before .before .before .before .before .before .before .loop .inv .2
 
-returns : tie.Need-returns Inv-loop μ-loop
-returns c =
+returns-2 : tie.Need-returns-2 Inv-loop μ-loop
+returns-2 c =
     let p = c .before .before in
     let h = p .before .before .before in
     let l = h .before .before .before .before in
-    let a = l .before .before .before .args in
+    let a = l .before .before .before .before .args in
     let n : length (p .put2 .last .0) ≡ length (l .loop .out) = p .put2 .kept .0 in
     let two = h .before .hex-digit3 .result ∷ h .hex-digit4 .result ∷ [] in
     let i : l .loop .i ≡ length (a .bytes .now) - 1 = omega arith in
@@ -99,6 +102,7 @@ add-hex-spec =
     (tie.spec
     Inv-loop
     μ-loop
+    returns
     sub-last
     loop-holds
     shared-slice-read-b
@@ -117,4 +121,4 @@ add-hex-spec =
     put-requires-2
     add-result
     same-length
-    returns)
+    returns-2)

@@ -2,6 +2,7 @@ use borrow.Author.Needs.{needs}
 use mathlib.Core.Path.{sym, ap, _∙_}
 use mathlib.Core.Bool.{true, false}
 use Rattle.mmc.specs.ReplyBlock.{replyRead}
+use Rattle.recorder.specs.Answers.{cdbOf}
 use Rattle.recorder.specs.Job.{giveOf}
 use Rattle.print.specs.Run.{repliedOf}
 use Rattle.print.proofs.run.Laws.{data-part}
@@ -51,6 +52,7 @@ returns-2 c =
     c .give2 .ensures .step ∙ ap (giveOf (a .state) false) (d .reply-data2 .ensures ∙ data-part false (a .block .now) (g .0 .0) (k .read-reply .ensures .written _ (sym e))) ∙ ap (repliedOf (a .state)) e
 
 returns-3 : tie.Need-returns-3
+unfolding cdbOf
 returns-3 c =
     let k = c .before .before .before in
     let a = k .before .before .args in
