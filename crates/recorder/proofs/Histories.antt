@@ -29,7 +29,7 @@ use Rattle.recorder.proofs.Rulings.{ruled-at, rule-order, rule-done, ru
 use Rattle.recorder.proofs.Apart.{rule-apart}
 use Rattle.recorder.proofs.Goods.{Progressed, under-way, at-end, rule-good}
 use Rattle.recorder.proofs.Witness.{can-pass}
-use Rattle.recorder.proofs.Places.{Sized, behind}
+use Rattle.recorder.proofs.Behind.{Sized, behind}
 use Rattle.recorder.proofs.Moves.{at}
 use Rattle.recorder.proofs.Makes.{give-made, take-made}
 use Rattle.recorder.proofs.States.{standing-stands, standing-fresh, standing-accompanied}

@@ -5,7 +5,7 @@ pub mod Scripts
 pub mod Rulings
 pub mod Apart
 pub mod Goods
-pub mod Places
+pub mod Behind
 pub mod Standing
 pub mod Moves
 pub mod Makes

@@ -25,12 +25,12 @@ use Rattle.mmc.specs.declared.order.Method.{Method}
 use Rattle.mmc.specs.declared.order.Method.the-variants.{Tao, Sao}
 use Rattle.recorder.specs.declared.script.Op.{Op}
 use Rattle.recorder.specs.declared.script.Op.the-variants.{GetConfiguration, ReadDiscInformation, ReadTrackInformation, ModeSelect, SendCueSheet, Write, SynchronizeCache, CloseTrack, CloseSession}
-use Rattle.recorder.specs.declared.script.Following.{Following}
-use Rattle.recorder.specs.declared.script.Following.the-variants.{Next as Then, Nothing}
+use Rattle.recorder.specs.declared.places.Following.{Following}
+use Rattle.recorder.specs.declared.places.Following.the-variants.{Next as Then, Nothing}
 use Rattle.recorder.specs.declared.answers.Command.{Command}
 use Rattle.recorder.specs.declared.replies.Reading.{Reading}
 use Rattle.recorder.specs.declared.replies.Reading.the-variants.{Unread}
-use Rattle.recorder.specs.declared.rules.Seen.{Seen}
+use Rattle.recorder.specs.declared.exchanges.Seen.{Seen}
 use Rattle.recorder.specs.declared.job.Progress.{Progress}
 use Rattle.recorder.specs.declared.job.Recorder.{Recorder}
 use Rattle.recorder.specs.Answers.{issue, sheetBytes, madeBy, madeFor, cdbOf, bytesIn}
@@ -38,7 +38,8 @@ use Rattle.recorder.specs.Replies.{reading}
 use Rattle.recorder.specs.Script.{write, portion, trackIn, stepwise}
 use Rattle.recorder.specs.Exchanges.{see}
 use Rattle.recorder.specs.Rules.{lastFrame, Judgement, again, onward, refused, judge}
-use Rattle.recorder.specs.Job.{pieceEnded, beforeBlock, afterCloseTrack, opAfter, pieceOf, afterIn, commandOf, Turn, goes, finish, halt, advanced, turnBy, turnOf, stepOf, inOrder, inTime, inPiece, isWrite, standsAt, standsIn, stands, unchanged, endedAt, opening, giveOf}
+use Rattle.recorder.specs.Places.{pieceEnded, beforeBlock, afterCloseTrack, opAfter, pieceOf, afterIn}
+use Rattle.recorder.specs.Job.{commandOf, Turn, goes, finish, halt, advanced, turnBy, turnOf, stepOf, inOrder, inTime, inPiece, isWrite, standsAt, standsIn, stands, unchanged, endedAt, opening, giveOf}
 use Rattle.recorder.proofs.Lists.{if-yes, false-true, both, clash}
 use Rattle.recorder.proofs.Turns.{Asks, a46, a51, a52, isAsking, Reads, busy, failed, malformed, profile, status, information, unread, reads}
 

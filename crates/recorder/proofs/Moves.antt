@@ -11,20 +11,21 @@ use Rattle.mmc.specs.declared.order.Method.{Method}
 use Rattle.mmc.specs.declared.order.Method.the-variants.{Tao, Sao}
 use Rattle.recorder.specs.declared.script.Op.{Op}
 use Rattle.recorder.specs.declared.script.Op.the-variants.{GetConfiguration, ReadDiscInformation, ReadTrackInformation, ModeSelect, SendCueSheet, Write, SynchronizeCache, CloseTrack, CloseSession}
-use Rattle.recorder.specs.declared.script.Following.{Following}
-use Rattle.recorder.specs.declared.script.Following.the-variants.{Next as Then, Nothing}
+use Rattle.recorder.specs.declared.places.Following.{Following}
+use Rattle.recorder.specs.declared.places.Following.the-variants.{Next as Then, Nothing}
 use Rattle.recorder.specs.declared.replies.Reading.{Reading}
-use Rattle.recorder.specs.declared.rules.Seen.{Seen}
+use Rattle.recorder.specs.declared.exchanges.Seen.{Seen}
 use Rattle.recorder.specs.declared.job.Progress.{Progress}
 use Rattle.recorder.specs.Answers.{Why, because}
 use Rattle.recorder.specs.Replies.{reading}
 use Rattle.recorder.specs.Exchanges.{Exchange, Named, see, seen, name, named}
 use Rattle.recorder.specs.Rules.{Judgement, onward, refused, Test, tested, trackTests, judge, move, left, none, found, refusedBy, firstRefused}
-use Rattle.recorder.specs.Job.{afterIn, goes, finish, halt, advanced, turnBy, turnOf}
+use Rattle.recorder.specs.Places.{afterIn}
+use Rattle.recorder.specs.Job.{goes, finish, halt, advanced, turnBy, turnOf}
 use Rattle.recorder.proofs.Lists.{none-found, clash}
 use Rattle.recorder.proofs.Turns.{made, Played, nothing, then, Reads, busy, failed, malformed, profile, status, information, unread, reads}
 use Rattle.recorder.proofs.Rulings.{unrefused-last}
-use Rattle.recorder.proofs.Places.{Sized, behind, onto, Goes, GoesOn, goes-on}
+use Rattle.recorder.proofs.Behind.{Sized, behind, onto, Goes, GoesOn, goes-on}
 use Rattle.recorder.proofs.Standing.{long-at, InSession, Standing, StandingThen, stood}
 
 -- the job at an operation

@@ -14,7 +14,7 @@ use Rattle.mmc.specs.Order.{mostTracks, validOrder}
 use Rattle.mmc.specs.OrderBlock.{tracksOf, kindsOk, fieldsOf, headOk, orderOk, readOrder}
 use Rattle.mmc.specs.declared.order.Order.{Order}
 use Rattle.recorder.proofs.Lists.{clash, both}
-use Rattle.recorder.proofs.Places.{Sized}
+use Rattle.recorder.proofs.Behind.{Sized}
 
 rows-length : (k : ℕ) (b : List ℕ) → length (tracksOf k b) ≡ k
 unfolding tracksOf

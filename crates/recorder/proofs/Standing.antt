@@ -17,21 +17,21 @@ use Rattle.mmc.specs.declared.order.Method.{Method}
 use Rattle.mmc.specs.declared.order.Method.the-variants.{Tao, Sao}
 use Rattle.recorder.specs.declared.script.Op.{Op}
 use Rattle.recorder.specs.declared.script.Op.the-variants.{GetConfiguration, ReadDiscInformation, ReadTrackInformation, ModeSelect, SendCueSheet, Write, SynchronizeCache, CloseTrack, CloseSession}
-use Rattle.recorder.specs.declared.script.Following.{Following}
-use Rattle.recorder.specs.declared.script.Following.the-variants.{Next as Then, Nothing}
+use Rattle.recorder.specs.declared.places.Following.{Following}
+use Rattle.recorder.specs.declared.places.Following.the-variants.{Next as Then, Nothing}
 use Rattle.recorder.specs.declared.replies.TrackInformation.{TrackInformation}
 use Rattle.recorder.specs.declared.replies.Reading.{Reading}
 use Rattle.recorder.specs.declared.replies.Reading.the-variants.{Unread}
-use Rattle.recorder.specs.declared.rules.Seen.{Seen}
+use Rattle.recorder.specs.declared.exchanges.Seen.{Seen}
 use Rattle.recorder.specs.Script.{write, portion}
 use Rattle.recorder.specs.Exchanges.{Named, see, name}
 use Rattle.recorder.specs.Rules.{mixedOrKept, still, leadOut, lastFrame, fits, trackTests, judge, none, refusedBy}
-use Rattle.recorder.specs.Job.{pieceEnded, beforeBlock, afterCloseTrack, pieceOf, afterIn}
+use Rattle.recorder.specs.Places.{pieceEnded, beforeBlock, afterCloseTrack, pieceOf, afterIn}
 use Rattle.recorder.proofs.Lists.{none-found, false-true, both, passed-clear}
 use Rattle.recorder.proofs.Turns.{isAsking, Reads, malformed, profile, status, information, unread}
 use Rattle.recorder.proofs.Scripts.{by}
 use Rattle.recorder.proofs.Apart.{Passed, passed}
-use Rattle.recorder.proofs.Places.{Sized, track-length}
+use Rattle.recorder.proofs.Behind.{Sized, track-length}
 
 -- ---- the blocks of the tracks after the first t
 

@@ -23,16 +23,17 @@ use Rattle.mmc.specs.declared.order.Method.{Method}
 use Rattle.mmc.specs.declared.order.Method.the-variants.{Tao, Sao}
 use Rattle.recorder.specs.declared.script.Op.{Op}
 use Rattle.recorder.specs.declared.script.Op.the-variants.{GetConfiguration, ReadDiscInformation, ReadTrackInformation, ModeSelect, SendCueSheet, Write, SynchronizeCache, CloseTrack, CloseSession}
-use Rattle.recorder.specs.declared.rules.Seen.{Seen}
+use Rattle.recorder.specs.declared.exchanges.Seen.{Seen}
 use Rattle.recorder.specs.Answers.{sheetBytes}
 use Rattle.recorder.specs.Script.{trackIn, write, stepwise}
 use Rattle.recorder.specs.Exchanges.{Named}
 use Rattle.recorder.specs.Rules.{mixedOrKept, lastFrame}
-use Rattle.recorder.specs.Job.{pieceOf, commandOf, inOrder, inTime, inPiece, isWrite, standsAt, standsIn, stands}
+use Rattle.recorder.specs.Places.{pieceOf}
+use Rattle.recorder.specs.Job.{commandOf, inOrder, inTime, inPiece, isWrite, standsAt, standsIn, stands}
 use Rattle.recorder.specs.History.{Accompanied, FreshWrite}
 use Rattle.recorder.proofs.Lists.{if-yes, if-no, false-true, neither, frames-back}
 use Rattle.recorder.proofs.Scripts.{by}
-use Rattle.recorder.proofs.Places.{Sized, sized-by}
+use Rattle.recorder.proofs.Behind.{Sized, sized-by}
 use Rattle.recorder.proofs.Standing.{blocks-less, long-at, InOrder, InSession, IsWrite, Standing}
 use Rattle.recorder.proofs.Moves.{at}
 

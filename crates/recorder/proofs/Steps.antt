@@ -23,7 +23,7 @@ use Rattle.recorder.specs.History.{History, given, commandIn, commands, 
 use Rattle.recorder.proofs.Lists.{clash, if-yes, false-true}
 use Rattle.recorder.proofs.Turns.{made}
 use Rattle.recorder.proofs.Rulings.{refused-next, ruled-at, ruled-stop}
-use Rattle.recorder.proofs.Places.{Sized, behind}
+use Rattle.recorder.proofs.Behind.{Sized, behind}
 use Rattle.recorder.proofs.Standing.{Standing}
 use Rattle.recorder.proofs.Moves.{at, Moved, on-to, stops, ends, moved}
 use Rattle.recorder.proofs.Makes.{give-made}

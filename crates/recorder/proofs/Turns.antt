@@ -15,7 +15,7 @@ use Rattle.recorder.specs.declared.replies.Sense.{Sense}
 use Rattle.recorder.specs.declared.replies.TrackInformation.{TrackInformation}
 use Rattle.recorder.specs.declared.replies.Reading.{Reading}
 use Rattle.recorder.specs.declared.replies.Reading.the-variants.{Busy, Failed, Malformed, Profile, Status, Information, Unread}
-use Rattle.recorder.specs.declared.rules.Seen.{Seen}
+use Rattle.recorder.specs.declared.exchanges.Seen.{Seen}
 use Rattle.recorder.specs.Answers.{Why, because}
 use Rattle.recorder.specs.Replies.{senseOf, isBusy, readFailed, wholeProfile, readProfile, wholeDisc, readStatus, wholeInformation, readInformation, readGood, reading}
 use Rattle.recorder.specs.Script.{code}

@@ -24,7 +24,7 @@ use Rattle.recorder.specs.declared.script.Op.the-variants.{GetConfigurat
 use Rattle.recorder.specs.declared.replies.TrackInformation.{TrackInformation}
 use Rattle.recorder.specs.declared.replies.Reading.{Reading}
 use Rattle.recorder.specs.declared.replies.Reading.the-variants.{Malformed, Profile, Status, Information, Unread}
-use Rattle.recorder.specs.declared.rules.Seen.{Seen}
+use Rattle.recorder.specs.declared.exchanges.Seen.{Seen}
 use Rattle.recorder.specs.Answers.{Ruling, issue, done, stop}
 use Rattle.recorder.specs.Replies.{wholeProfile, readProfile, wholeDisc, readStatus, wholeInformation, informationOf, readInformation, reading}
 use Rattle.recorder.specs.Script.{code, gather, write, blocks, blocksFrom, blocksIn, script, expected}
@@ -36,7 +36,7 @@ use Rattle.recorder.proofs.Turns.{made, isAsking, turn}
 use Rattle.recorder.proofs.Scripts.{by, each-blocks}
 use Rattle.recorder.proofs.Rulings.{refused-next, ruled-at, done-left}
 use Rattle.recorder.proofs.Goods.{one-less, Progressed, under-way, at-end, rule-good}
-use Rattle.recorder.proofs.Places.{Sized, tracksFrom, behind, next-track}
+use Rattle.recorder.proofs.Behind.{Sized, tracksFrom, behind, next-track}
 use Rattle.recorder.proofs.Standing.{blocksAfter, Standing}
 use Rattle.recorder.proofs.Moves.{Moved, on-to, stops, ends, moved}
 

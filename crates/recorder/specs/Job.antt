@@ -3,14 +3,13 @@
 use mathlib.Core.Path.{_≡_}
 use mathlib.Core.Bool.{Bool, true, false, not, _&&_}
 use mathlib.Core.List.{List}
-use Prim.Native.Nat.{ℕ, zero, suc, _+_, _-_, _^_, min}
-use lib.ListN.{getD}
+use Prim.Native.Nat.{ℕ, suc, _+_, _-_, _^_, min}
 use lib.Dec.{ltb, leb, eqb}
 use Rattle.mmc.specs.Bytes.{if}
 use Rattle.mmc.specs.Refusals.{Outcome, pass, refuse, numberOf}
-use Rattle.mmc.specs.Order.{mostTracks, noTrack, noOrder}
+use Rattle.mmc.specs.Order.{mostTracks, noOrder}
 use Rattle.mmc.specs.OrderBlock.{readOrder}
-use Rattle.mmc.specs.Times.{leadFrames, addressAt}
+use Rattle.mmc.specs.Times.{addressAt}
 use Rattle.mmc.specs.ReplyBlock.{replyOf}
 use Rattle.mmc.specs.declared.units.FrameCount.{FrameCount}
 use Rattle.mmc.specs.declared.order.Order.{Order}
@@ -18,12 +17,12 @@ use Rattle.mmc.specs.declared.order.Method.{Method}
 use Rattle.mmc.specs.declared.order.Method.the-variants.{Tao, Sao}
 use Rattle.recorder.specs.declared.script.Op.{Op}
 use Rattle.recorder.specs.declared.script.Op.the-variants.{GetConfiguration, ReadDiscInformation, ReadTrackInformation, ModeSelect, SendCueSheet, Write, SynchronizeCache, CloseTrack, CloseSession}
-use Rattle.recorder.specs.declared.script.Following.{Following}
-use Rattle.recorder.specs.declared.script.Following.the-variants.{Next as Then, Nothing}
+use Rattle.recorder.specs.declared.places.Following.{Following}
+use Rattle.recorder.specs.declared.places.Following.the-variants.{Next as Then, Nothing}
 use Rattle.recorder.specs.declared.answers.Command.{Command}
 use Rattle.recorder.specs.declared.answers.Cdb.{Cdb}
 use Rattle.recorder.specs.declared.replies.Reading.{Reading}
-use Rattle.recorder.specs.declared.rules.Seen.{Seen}
+use Rattle.recorder.specs.declared.exchanges.Seen.{Seen}
 use Rattle.recorder.specs.declared.job.Phase.{Phase}
 use Rattle.recorder.specs.declared.job.Phase.the-variants.{Going, Finished, Stopped}
 use Rattle.recorder.specs.declared.job.Move.{Move}
@@ -33,58 +32,10 @@ use Rattle.recorder.specs.declared.job.Recorder.{Recorder}
 use Rattle.recorder.specs.declared.job.Step.{Step}
 use Rattle.recorder.specs.Replies.{reading, UnsignedIn, ForTrack}
 use Rattle.recorder.specs.Answers.{Why, because, drive-failed, Ruling, issue, done, stop, said, bytesOf, cdbOf}
-use Rattle.recorder.specs.Script.{write, portion, trackIn, ofWrite, stepwise}
+use Rattle.recorder.specs.Script.{portion, trackIn, stepwise}
+use Rattle.recorder.specs.Places.{pieceOf, afterIn}
 use Rattle.recorder.specs.Exchanges.{nothingSeen, see}
 use Rattle.recorder.specs.Rules.{lastFrame, Judgement, again, onward, refused, judge}
-
--- ---- which operation comes after another, of n tracks; the piece at hand, the pause or a track, has l blocks, the next one k
-
--- the piece t has ended: 35h, or in SAO the next track
-unfoldable pub pieceEnded : Method → ℕ → ℕ → ℕ → Op
-pieceEnded Tao n k t = SynchronizeCache (record { 0 = t })
-pieceEnded Sao n k t = if (ltb t n) (write (suc t) 0 (portion k 0)) (SynchronizeCache (record { 0 = t }))
-
--- from the block f of the piece t on
-unfoldable pub beforeBlock : Method → ℕ → ℕ → ℕ → ℕ → ℕ → Op
-beforeBlock m n l k t f = if (ltb f l) (write t f (portion l f)) (pieceEnded m n k t)
-
--- the block that is next after an operation: that after a WRITE, else the first
-abbrev pub blockAfter : Op → ℕ
-blockAfter x = ofWrite 0 (λ t f k. f + k) x
-
--- after 55h: the track's WRITEs, or 5Dh
-abbrev pub afterPage : Method → Op → Op
-afterPage Tao x = x
-afterPage Sao x = SendCueSheet
-
--- after 35h: 5Bh function 1; in SAO it was the last
-abbrev pub afterSynchronize : Method → ℕ → Following
-afterSynchronize Tao t = Then (CloseTrack (record { 0 = t }))
-afterSynchronize Sao t = Nothing
-
--- after 5Bh function 1: the next track, or 5Bh function 2
-unfoldable pub afterCloseTrack : ℕ → ℕ → Op
-afterCloseTrack n t = if (ltb t n) (ReadTrackInformation (record { 0 = suc t })) CloseSession
-
-abbrev pub opAfter : Method → ℕ → ℕ → ℕ → Op → Following
-opAfter m n l k GetConfiguration = Then ReadDiscInformation
-opAfter m n l k ReadDiscInformation = Then (ReadTrackInformation (record { 0 = 1 }))
-opAfter m n l k (ReadTrackInformation t) = Then (ModeSelect t)
-opAfter m n l k (ModeSelect t) = Then (afterPage m (beforeBlock m n l k (t .0) 0))
-opAfter m n l k SendCueSheet = Then (beforeBlock m n l k 0 0)
-opAfter m n l k (Write t f c) = Then (beforeBlock m n l k (t .0) (f .0 + c .0))
-opAfter m n l k (SynchronizeCache t) = afterSynchronize m (t .0)
-opAfter m n l k (CloseTrack t) = Then (afterCloseTrack n (t .0))
-opAfter m n l k CloseSession = Nothing
-
--- the blocks of a piece of the job: of the pause, or of the track t
-abbrev pub pieceOf : Order → ℕ → ℕ
-pieceOf o zero = leadFrames
-pieceOf o (suc t) = getD (o .tracks) t noTrack .length .0
-
--- in an order
-abbrev pub afterIn : Order → Op → Following
-afterIn o x = opAfter (o .method) (o .count) (pieceOf o (trackIn x)) (pieceOf o (suc (trackIn x))) x
 
 -- ---- what a reply leads to
 

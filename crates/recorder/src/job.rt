@@ -5,23 +5,24 @@ ghost use mathlib.Core.List.{[]};
 ghost use Rattle.recorder.specs.Answers.{issue, said, cdbOf};
 ghost use Rattle.recorder.specs.declared.job.Phase.the-variants.{Going};
 ghost use Rattle.recorder.specs.History.{Takes, Gives};
-ghost use Rattle.recorder.specs.Job.{pieceOf, inOrder, inTime, inPiece, isWrite, standsAt, standsIn, endedAt, validOf, Ready, commandOf, turnIn, advanced, turnOf, oneMore, stateOf, nextIn, nextOf, stepOf};
+ghost use Rattle.recorder.specs.Job.{inOrder, inTime, inPiece, isWrite, standsAt, standsIn, endedAt, validOf, Ready, commandOf, turnIn, advanced, turnOf, oneMore, stateOf, nextIn, nextOf, stepOf};
 use crate::answers::Answer;
 use crate::answers::Cdb;
 use crate::answers::Command;
 use crate::answers::cdb_of;
 use crate::answers::no_cdb;
+use crate::exchanges::Seen;
+use crate::exchanges::see_reply;
+use crate::places::Following;
+use crate::places::op_after;
+use crate::places::piece_length;
 use crate::replies::Reading;
 use crate::replies::Sense;
 use crate::replies::read_reply;
-use crate::rules::Seen;
 use crate::rules::Verdict;
 use crate::rules::judge_reply;
-use crate::rules::see_reply;
-use crate::script::Following;
 use crate::script::Op;
 use crate::script::is_stepwise;
-use crate::script::op_after;
 use crate::script::portion_of;
 use crate::script::track_of;
 use mmc::order::Method;
@@ -68,21 +69,6 @@ enum Move {
     Finish,
     Halt(Refusal),
     Fail(Sense),
-}
-
-// The blocks of a piece of the job: the pause, or a track; none past the last row.
-fn piece_length(o: Order, t: u32) -> u32
-    ensures { λ r. ⌜ r ≡ pieceOf o t ⌝ }
-{
-    if t == 0 {
-        return 150;
-    }
-    if 99 < t {
-        return 0;
-    }
-    let i = t as usize - 1;
-    let track = o.tracks[i];
-    track.length.0
 }
 
 // Whether a track is one of so many.

@@ -5,14 +5,14 @@ ghost use Prim.Native.Nat.{_≤_, _<_, _^_};
 ghost use Rattle.mmc.specs.Times.{framesTo};
 ghost use Rattle.recorder.specs.Replies.{Unsigned, UnsignedIn, ForTrack};
 ghost use Rattle.recorder.specs.Script.{trackIn};
-ghost use Rattle.recorder.specs.Exchanges.{see, startAt};
 ghost use Rattle.recorder.specs.Rules.{otherProfile, unsuitable, unusable, mixedOrKept, fits, test, tested, trackTests, judgementIn, untested, judge};
+use crate::exchanges::Seen;
+use crate::exchanges::frames_to;
 use crate::replies::Reading;
 use crate::replies::Sense;
 use crate::replies::TrackInformation;
 use crate::script::Op;
 use crate::script::is_stepwise;
-use crate::script::past_op;
 use crate::script::track_of;
 use mmc::order::Method;
 use mmc::order::Order;
@@ -20,17 +20,8 @@ use mmc::order::all_long;
 use mmc::order::blocks_after;
 use mmc::order::one_kind;
 use mmc::refusals::Refusal;
-use mmc::units::BlockAddress;
 use mmc::units::BlockSum;
 use mmc::units::FrameCount;
-
-// What the rules look at in the replies so far: the profile, the disc status, and the frames to where the next block goes (address
-// plus 150): the address of the latest READ TRACK INFORMATION in a track at once, or the end of the last WRITE.
-pub struct Seen {
-    pub profile: u16,
-    pub status: u8,
-    pub at: FrameCount,
-}
 
 // How a reply is judged: the same command again, onward, or a stop.
 pub(crate) enum Verdict {
@@ -44,14 +35,6 @@ pub(crate) enum Verdict {
 const LEAD_FRAMES: u64 = 150;
 
 const LAST_FRAME: u64 = 449999;
-
-// The frames to a Next Writable Address.
-fn frames_to(a: BlockAddress) -> u64
-    requires { ⌜ Unsigned a ⌝ }
-    ensures { λ r. ⌜ (r ≡ framesTo a .0) × (r < 2 ^ 33) ⌝ }
-{
-    (a.0 + 150) as u64
-}
 
 // 5: neither CD-R nor CD-RW.
 fn other_profile(profile: u16) -> bool
@@ -201,51 +184,4 @@ pub(crate) fn judge_reply(o: Order, op: Op, v: Seen, reading: Reading) -> Verdic
         return verdict_of(reading);
     };
     judge_track(o, track_of(op), v, i)
-}
-
-// Where the next block goes once READ TRACK INFORMATION has passed.
-fn start_at(m: Method, at: FrameCount, i: TrackInformation) -> FrameCount
-    requires { ⌜ Unsigned (i .address) ⌝ }
-    requires { ⌜ startAt m at i .0 < 2 ^ 32 ⌝ }
-    ensures { λ r. ⌜ r ≡ startAt m at i ⌝ }
-{
-    let address = i.address;
-    match m {
-        Method::Tao => FrameCount(frames_to(address) as u32),
-        Method::Sao => at,
-    }
-}
-
-// What is seen after a reply to an operation.
-pub(crate) fn see_reply(m: Method, op: Op, v: Seen, reading: Reading) -> Seen
-    requires { ⌜ see m op reading v .at .0 < 2 ^ 32 ⌝ }
-    requires { ⌜ UnsignedIn reading ⌝ }
-    ensures { λ r. ⌜ r ≡ see m op reading v ⌝ }
-{
-    let at = v.at;
-    match reading {
-        Reading::Busy => v,
-        Reading::Failed(_) => v,
-        Reading::Malformed => v,
-        Reading::Profile(p) => Seen {
-            profile: p,
-            status: v.status,
-            at: at,
-        },
-        Reading::Status(q) => Seen {
-            profile: v.profile,
-            status: q,
-            at: at,
-        },
-        Reading::Information(i) => Seen {
-            profile: v.profile,
-            status: v.status,
-            at: start_at(m, at, i),
-        },
-        Reading::Unread => Seen {
-            profile: v.profile,
-            status: v.status,
-            at: past_op(op, at),
-        },
-    }
 }

@@ -1,12 +1,8 @@
-// The operations of a job, and which one comes after another.
+// The operations of a job.
 ghost use mathlib.Core.Path.{_≡_};
-ghost use Prim.Native.Nat.{_+_, _<_, _^_};
-ghost use Rattle.recorder.specs.Script.{portion, write, stepwise, trackIn};
-ghost use Rattle.recorder.specs.Exchanges.{past};
-ghost use Rattle.recorder.specs.Job.{pieceEnded, beforeBlock, blockAfter, afterPage, afterSynchronize, afterCloseTrack, opAfter};
+ghost use Rattle.recorder.specs.Script.{portion, stepwise, trackIn};
 use mmc::order::Method;
 use mmc::units::BlockCount;
-use mmc::units::FrameCount;
 use mmc::units::TrackNumber;
 
 // A command without its address. A WRITE has its track (0: the pause), its first block there, from 0 on, and its count; MODE SELECT
@@ -25,12 +21,6 @@ pub enum Op {
     SynchronizeCache(TrackNumber),
     CloseTrack(TrackNumber),
     CloseSession,
-}
-
-// What comes after an operation.
-pub(crate) enum Following {
-    Next(Op),
-    Nothing,
 }
 
 // The blocks of the WRITE of a piece of so many blocks from one of them on.
@@ -65,28 +55,6 @@ pub(crate) fn track_of(op: Op) -> u16
     }
 }
 
-// Where the next block goes after an operation: a WRITE moves it by its count.
-pub(crate) fn past_op(op: Op, at: FrameCount) -> FrameCount
-    requires { ⌜ past op at .0 < 2 ^ 32 ⌝ }
-    ensures { λ r. ⌜ r ≡ past op at ⌝ }
-{
-    match op {
-        Op::GetConfiguration => at,
-        Op::ReadDiscInformation => at,
-        Op::ReadTrackInformation(_) => at,
-        Op::ModeSelect(_) => at,
-        Op::SendCueSheet => at,
-        Op::Write {
-            track: _,
-            first: _,
-            count,
-        } => FrameCount(at.0 + count.0),
-        Op::SynchronizeCache(_) => at,
-        Op::CloseTrack(_) => at,
-        Op::CloseSession => at,
-    }
-}
-
 // Whether a track has its own READ TRACK INFORMATION, and starts where that says: in a track at once.
 pub(crate) fn is_stepwise(m: Method) -> bool
     ensures { λ r. ⌜ r ≡ stepwise m ⌝ }
@@ -94,123 +62,5 @@ pub(crate) fn is_stepwise(m: Method) -> bool
     match m {
         Method::Tao => true,
         Method::Sao => false,
-    }
-}
-
-// The WRITE of a piece of so many blocks from one of them on.
-fn write_from(track: u16, length: u32, first: u32) -> Op
-    ensures { λ r. ⌜ r ≡ write track first (portion length first) ⌝ }
-{
-    Op::Write {
-        track: TrackNumber(track),
-        first: BlockCount(first),
-        count: BlockCount(portion_of(length, first)),
-    }
-}
-
-// What comes after a piece: its closing, or in a session at once the next of the tracks, of so many blocks.
-fn piece_ended(m: Method, tracks: u8, next: u32, track: u16) -> Op
-    ensures { λ r. ⌜ r ≡ pieceEnded m tracks next track ⌝ }
-{
-    match m {
-        Method::Tao => Op::SynchronizeCache(TrackNumber(track)),
-        Method::Sao => {
-            if track < tracks as u16 {
-                write_from(track + 1, next, 0)
-            } else {
-                Op::SynchronizeCache(TrackNumber(track))
-            }
-        }
-    }
-}
-
-// The WRITE from a block of a piece of so many blocks on, or what comes after the piece.
-fn before_block(m: Method, tracks: u8, length: u32, next: u32, track: u16, first: u32) -> Op
-    ensures { λ r. ⌜ r ≡ beforeBlock m tracks length next track first ⌝ }
-{
-    if first < length {
-        write_from(track, length, first)
-    } else {
-        piece_ended(m, tracks, next, track)
-    }
-}
-
-// The block of its piece that is next after an operation: that after a WRITE, else the first.
-fn block_after(op: Op) -> u32
-    requires { ⌜ blockAfter op < 2 ^ 32 ⌝ }
-    ensures { λ r. ⌜ r ≡ blockAfter op ⌝ }
-{
-    match op {
-        Op::GetConfiguration => 0,
-        Op::ReadDiscInformation => 0,
-        Op::ReadTrackInformation(_) => 0,
-        Op::ModeSelect(_) => 0,
-        Op::SendCueSheet => 0,
-        Op::Write {
-            track: _,
-            first,
-            count,
-        } => first.0 + count.0,
-        Op::SynchronizeCache(_) => 0,
-        Op::CloseTrack(_) => 0,
-        Op::CloseSession => 0,
-    }
-}
-
-// After MODE SELECT: the track's WRITEs, or the cue sheet.
-fn after_page(m: Method, writes: Op) -> Op
-    ensures { λ r. ⌜ r ≡ afterPage m writes ⌝ }
-{
-    match m {
-        Method::Tao => writes,
-        Method::Sao => Op::SendCueSheet,
-    }
-}
-
-// After SYNCHRONIZE CACHE: the track is closed, or a session at once is done.
-fn after_synchronize(m: Method, track: u16) -> Following
-    ensures { λ r. ⌜ r ≡ afterSynchronize m track ⌝ }
-{
-    match m {
-        Method::Tao => Following::Next(Op::CloseTrack(TrackNumber(track))),
-        Method::Sao => Following::Nothing,
-    }
-}
-
-// After the closing of a track: the next of the tracks, or the closing of the session.
-fn after_close_track(tracks: u8, track: u16) -> Op
-    ensures { λ r. ⌜ r ≡ afterCloseTrack tracks track ⌝ }
-{
-    if track < tracks as u16 {
-        Op::ReadTrackInformation(TrackNumber(track + 1))
-    } else {
-        Op::CloseSession
-    }
-}
-
-// The operation after another, in an order of so many tracks; the piece at hand and the next one have so many blocks.
-pub(crate) fn op_after(m: Method, tracks: u8, length: u32, next: u32, op: Op) -> Following
-    requires { ⌜ blockAfter op < 2 ^ 32 ⌝ }
-    ensures { λ r. ⌜ r ≡ opAfter m tracks length next op ⌝ }
-{
-    let track = track_of(op);
-    let writes = before_block(m, tracks, length, next, track, block_after(op));
-    let page = after_page(m, writes);
-    let synchronized = after_synchronize(m, track);
-    let closed = after_close_track(tracks, track);
-    match op {
-        Op::GetConfiguration => Following::Next(Op::ReadDiscInformation),
-        Op::ReadDiscInformation => Following::Next(Op::ReadTrackInformation(TrackNumber(1))),
-        Op::ReadTrackInformation(t) => Following::Next(Op::ModeSelect(t)),
-        Op::ModeSelect(_) => Following::Next(page),
-        Op::SendCueSheet => Following::Next(writes),
-        Op::Write {
-            track: _,
-            first: _,
-            count: _,
-        } => Following::Next(writes),
-        Op::SynchronizeCache(_) => synchronized,
-        Op::CloseTrack(_) => Following::Next(closed),
-        Op::CloseSession => Following::Nothing,
     }
 }

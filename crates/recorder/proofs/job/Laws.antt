@@ -35,7 +35,8 @@ use Rattle.recorder.specs.Replies.{isBusy, readFailed, wholeProfile, rea
 use Rattle.recorder.specs.Script.{trackIn, ofWrite}
 use Rattle.recorder.specs.Exchanges.{startAt, past, see}
 use Rattle.recorder.specs.Rules.{onward, still, lastFrame, fits, trackTests, judge, refusedBy}
-use Rattle.recorder.specs.Job.{pieceOf, blockAfter, inOrder, inPiece, standsAt, standsIn, stands, Ready, endedAt, Next, goes, halt, turnOf, stepOf, unchanged, opening, takenAs, takeOf, giveOf}
+use Rattle.recorder.specs.Places.{pieceOf, blockAfter}
+use Rattle.recorder.specs.Job.{inOrder, inPiece, standsAt, standsIn, stands, Ready, endedAt, Next, goes, halt, turnOf, stepOf, unchanged, opening, takenAs, takeOf, giveOf}
 use Rattle.recorder.proofs.Lists.{both, passed-clear}
 use Rattle.recorder.proofs.Apart.{passed}
 use Rattle.recorder.proofs.Standing.{limits}

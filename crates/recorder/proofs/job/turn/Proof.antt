@@ -2,7 +2,7 @@ use mathlib.Core.Path.{sym, ap, _∙_}
 use Prim.Native.Nat.{_<_, _^_}
 use Rattle.recorder.specs.Script.{trackIn}
 use Rattle.recorder.specs.Rules.{judgementIn}
-use Rattle.recorder.specs.Job.{pieceOf}
+use Rattle.recorder.specs.Places.{pieceOf}
 use Rattle.recorder.proofs.job.Laws.{block-fits, seen-fits}
 use borrow.Author.Needs.{needs}
 use Rattle.recorder.proofs.job.turn.Statement.{statement}

@@ -1,6 +1,6 @@
 use borrow.Author.Needs.{needs}
-use Rattle.recorder.proofs.script.write_from.Statement.{statement}
-use Rattle.recorder.proofs.script.write_from.Tie as tie
+use Rattle.recorder.proofs.places.write_from.Statement.{statement}
+use Rattle.recorder.proofs.places.write_from.Tie as tie
 
 returns : tie.Need-returns
 returns c = rw (c .portion-of .ensures)

@@ -3,8 +3,8 @@ use mathlib.Core.Path.{_≡_}
 use lib.ListN.{length}
 use Rattle.recorder.proofs.job.Laws.{no-row, row}
 use borrow.Author.Needs.{needs}
-use Rattle.recorder.proofs.job.piece_length.Statement.{statement}
-use Rattle.recorder.proofs.job.piece_length.Tie as tie
+use Rattle.recorder.proofs.places.piece_length.Statement.{statement}
+use Rattle.recorder.proofs.places.piece_length.Tie as tie
 
 sized : (c : tie.Start) → length (c .args .t1 .tracks) ≡ 99
 sized c = search (needs, mapped-length)

@@ -1,6 +1,6 @@
 use borrow.Author.Needs.{needs}
-use Rattle.recorder.proofs.rules.start_at.Statement.{statement}
-use Rattle.recorder.proofs.rules.start_at.Tie as tie
+use Rattle.recorder.proofs.exchanges.start_at.Statement.{statement}
+use Rattle.recorder.proofs.exchanges.start_at.Tie as tie
 
 -- in a track at once the start that is asked to fit is the frames themselves
 cast-t7 : tie.Need-cast-t7

@@ -1,9 +1,9 @@
 use native.Mathlib.Numerals.{add-one}
 use borrow.Author.Tests.{lt-ltb, le-ltb}
-use Rattle.recorder.specs.Job.{afterCloseTrack}
+use Rattle.recorder.specs.Places.{afterCloseTrack}
 use borrow.Author.Needs.{needs}
-use Rattle.recorder.proofs.script.after_close_track.Statement.{statement}
-use Rattle.recorder.proofs.script.after_close_track.Tie as tie
+use Rattle.recorder.proofs.places.after_close_track.Statement.{statement}
+use Rattle.recorder.proofs.places.after_close_track.Tie as tie
 
 returns : tie.Need-returns
 unfolding afterCloseTrack

@@ -1,8 +1,8 @@
 use borrow.Author.Tests.{lt-ltb, le-ltb}
-use Rattle.recorder.specs.Job.{beforeBlock}
+use Rattle.recorder.specs.Places.{beforeBlock}
 use borrow.Author.Needs.{needs}
-use Rattle.recorder.proofs.script.before_block.Statement.{statement}
-use Rattle.recorder.proofs.script.before_block.Tie as tie
+use Rattle.recorder.proofs.places.before_block.Statement.{statement}
+use Rattle.recorder.proofs.places.before_block.Tie as tie
 
 returns : tie.Need-returns
 unfolding beforeBlock

@@ -1,6 +1,6 @@
 use borrow.Author.Needs.{needs}
-use Rattle.recorder.proofs.script.past_op.Statement.{statement}
-use Rattle.recorder.proofs.script.past_op.Tie as tie
+use Rattle.recorder.proofs.exchanges.past_op.Statement.{statement}
+use Rattle.recorder.proofs.exchanges.past_op.Tie as tie
 
 add-t5 : tie.Need-add-t5
 add-t5 c = let h = rw (c .before .before .before .op .given .1) at (c .before .before .before .before .before .pre) in search needs

@@ -8,8 +8,8 @@ use borrow.Author.Needs.{needs}
 use Rattle.mmc.specs.Times.{framesTo}
 use Rattle.mmc.proofs.times.Signed.{sum-fits, sum-is}
 use Rattle.mmc.specs.declared.units.BlockAddress.{BlockAddress}
-use Rattle.recorder.proofs.rules.frames_to.Statement.{statement}
-use Rattle.recorder.proofs.rules.frames_to.Tie as tie
+use Rattle.recorder.proofs.exchanges.frames_to.Statement.{statement}
+use Rattle.recorder.proofs.exchanges.frames_to.Tie as tie
 
 abbrev A : tie.After-struct-told → BlockAddress
 A c = c .before .before .args .a

@@ -1,6 +1,6 @@
 use borrow.Author.Needs.{needs}
-use Rattle.recorder.proofs.script.after_synchronize.Statement.{statement}
-use Rattle.recorder.proofs.script.after_synchronize.Tie as tie
+use Rattle.recorder.proofs.places.after_synchronize.Statement.{statement}
+use Rattle.recorder.proofs.places.after_synchronize.Tie as tie
 
 returns : tie.Need-returns
 returns c = rw (c .enum-told .given .1)

@@ -1,9 +1,9 @@
 use native.Mathlib.Numerals.{add-one}
 use borrow.Author.Tests.{lt-ltb, le-ltb}
-use Rattle.recorder.specs.Job.{pieceEnded}
+use Rattle.recorder.specs.Places.{pieceEnded}
 use borrow.Author.Needs.{needs}
-use Rattle.recorder.proofs.script.piece_ended.Statement.{statement}
-use Rattle.recorder.proofs.script.piece_ended.Tie as tie
+use Rattle.recorder.proofs.places.piece_ended.Statement.{statement}
+use Rattle.recorder.proofs.places.piece_ended.Tie as tie
 
 returns : tie.Need-returns
 unfolding pieceEnded

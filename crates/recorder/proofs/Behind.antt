@@ -17,10 +17,10 @@ use Rattle.mmc.specs.declared.order.Method.{Method}
 use Rattle.mmc.specs.declared.order.Method.the-variants.{Tao, Sao}
 use Rattle.recorder.specs.declared.script.Op.{Op}
 use Rattle.recorder.specs.declared.script.Op.the-variants.{GetConfiguration, ReadDiscInformation, ReadTrackInformation, ModeSelect, SendCueSheet, Write, SynchronizeCache, CloseTrack, CloseSession}
-use Rattle.recorder.specs.declared.script.Following.{Following}
-use Rattle.recorder.specs.declared.script.Following.the-variants.{Next as Then, Nothing}
+use Rattle.recorder.specs.declared.places.Following.{Following}
+use Rattle.recorder.specs.declared.places.Following.the-variants.{Next as Then, Nothing}
 use Rattle.recorder.specs.Script.{write, portion, writesFor, writes, writesFrom, beforeTracks, trackBy, eachTrack, script}
-use Rattle.recorder.specs.Job.{pieceEnded, beforeBlock, afterCloseTrack, pieceOf, afterIn}
+use Rattle.recorder.specs.Places.{pieceEnded, beforeBlock, afterCloseTrack, pieceOf, afterIn}
 use Rattle.recorder.proofs.Scripts.{by}
 
 -- an order as it is read

@@ -1,6 +1,6 @@
 use borrow.Author.Needs.{needs}
-use Rattle.recorder.proofs.rules.see_reply.Statement.{statement}
-use Rattle.recorder.proofs.rules.see_reply.Tie as tie
+use Rattle.recorder.proofs.exchanges.see_reply.Statement.{statement}
+use Rattle.recorder.proofs.exchanges.see_reply.Tie as tie
 
 -- what this function asks for computes to what the callee does, once the reading is known
 start-at-requires : tie.Need-start-at-requires

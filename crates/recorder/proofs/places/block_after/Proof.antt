@@ -1,6 +1,6 @@
 use borrow.Author.Needs.{needs}
-use Rattle.recorder.proofs.script.block_after.Statement.{statement}
-use Rattle.recorder.proofs.script.block_after.Tie as tie
+use Rattle.recorder.proofs.places.block_after.Statement.{statement}
+use Rattle.recorder.proofs.places.block_after.Tie as tie
 
 add-result : tie.Need-add-result
 add-result c = let h = rw (c .before .before .before .op .given .1) at (c .before .before .before .before .before .pre) in search needs

@@ -1,6 +1,6 @@
 use borrow.Author.Needs.{needs}
-use Rattle.recorder.proofs.script.op_after.Statement.{statement}
-use Rattle.recorder.proofs.script.op_after.Tie as tie
+use Rattle.recorder.proofs.places.op_after.Statement.{statement}
+use Rattle.recorder.proofs.places.op_after.Tie as tie
 
 returns : tie.Need-returns
 returns c = rw (c .enum-told .given .1)

@@ -1,0 +1,97 @@
+// What is seen in the replies to the commands given so far.
+ghost use mathlib.Core.Path.{_≡_};
+ghost use Prim.Native.Nat.{_<_, _^_};
+ghost use Rattle.mmc.specs.Times.{framesTo};
+ghost use Rattle.recorder.specs.Replies.{Unsigned, UnsignedIn};
+ghost use Rattle.recorder.specs.Exchanges.{startAt, past, see};
+use crate::replies::Reading;
+use crate::replies::TrackInformation;
+use crate::script::Op;
+use mmc::order::Method;
+use mmc::units::BlockAddress;
+use mmc::units::FrameCount;
+
+// What the rules look at in the replies so far: the profile, the disc status, and the frames to where the next block goes (address
+// plus 150): the address of the latest READ TRACK INFORMATION in a track at once, or the end of the last WRITE.
+pub struct Seen {
+    pub profile: u16,
+    pub status: u8,
+    pub at: FrameCount,
+}
+
+// The frames to a Next Writable Address.
+pub(crate) fn frames_to(a: BlockAddress) -> u64
+    requires { ⌜ Unsigned a ⌝ }
+    ensures { λ r. ⌜ (r ≡ framesTo a .0) × (r < 2 ^ 33) ⌝ }
+{
+    (a.0 + 150) as u64
+}
+
+// Where the next block goes once READ TRACK INFORMATION has passed.
+fn start_at(m: Method, at: FrameCount, i: TrackInformation) -> FrameCount
+    requires { ⌜ Unsigned (i .address) ⌝ }
+    requires { ⌜ startAt m at i .0 < 2 ^ 32 ⌝ }
+    ensures { λ r. ⌜ r ≡ startAt m at i ⌝ }
+{
+    let address = i.address;
+    match m {
+        Method::Tao => FrameCount(frames_to(address) as u32),
+        Method::Sao => at,
+    }
+}
+
+// Where the next block goes after an operation: a WRITE moves it by its count.
+fn past_op(op: Op, at: FrameCount) -> FrameCount
+    requires { ⌜ past op at .0 < 2 ^ 32 ⌝ }
+    ensures { λ r. ⌜ r ≡ past op at ⌝ }
+{
+    match op {
+        Op::GetConfiguration => at,
+        Op::ReadDiscInformation => at,
+        Op::ReadTrackInformation(_) => at,
+        Op::ModeSelect(_) => at,
+        Op::SendCueSheet => at,
+        Op::Write {
+            track: _,
+            first: _,
+            count,
+        } => FrameCount(at.0 + count.0),
+        Op::SynchronizeCache(_) => at,
+        Op::CloseTrack(_) => at,
+        Op::CloseSession => at,
+    }
+}
+
+// What is seen after a reply to an operation.
+pub(crate) fn see_reply(m: Method, op: Op, v: Seen, reading: Reading) -> Seen
+    requires { ⌜ see m op reading v .at .0 < 2 ^ 32 ⌝ }
+    requires { ⌜ UnsignedIn reading ⌝ }
+    ensures { λ r. ⌜ r ≡ see m op reading v ⌝ }
+{
+    let at = v.at;
+    match reading {
+        Reading::Busy => v,
+        Reading::Failed(_) => v,
+        Reading::Malformed => v,
+        Reading::Profile(p) => Seen {
+            profile: p,
+            status: v.status,
+            at: at,
+        },
+        Reading::Status(q) => Seen {
+            profile: v.profile,
+            status: q,
+            at: at,
+        },
+        Reading::Information(i) => Seen {
+            profile: v.profile,
+            status: v.status,
+            at: start_at(m, at, i),
+        },
+        Reading::Unread => Seen {
+            profile: v.profile,
+            status: v.status,
+            at: past_op(op, at),
+        },
+    }
+}
