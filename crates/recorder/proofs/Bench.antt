@@ -7,10 +7,11 @@ use Rattle.mmc.specs.Commands.{writeRange, writeBytes, writeCommand}
 use Rattle.mmc.proofs.Bench as Layouts
 use Rattle.recorder.specs.Replies.{hasSense, senseOf, notReady, isBusy, readFailed, wholeProfile, readProfile, wholeDisc, readStatus, wholeInformation, informationOf, readInformation}
 use Rattle.recorder.specs.Rules.{otherProfile, unsuitable, unusable, mixedOrKept, fits}
+use Rattle.recorder.specs.Job.{inOrder, inTime, inPiece, isWrite, standsIn}
 use Rattle.recorder.specs.Bench.{BenchSheets}
 
 pub bench-sheets : BenchSheets
-unfolding framesTo bytes32 be32 allKind allLong blocksOf inRange addressAt writeRange writeBytes writeCommand hasSense senseOf notReady isBusy readFailed wholeProfile readProfile wholeDisc readStatus wholeInformation informationOf readInformation otherProfile unsuitable unusable mixedOrKept fits
+unfolding framesTo bytes32 be32 allKind allLong blocksOf inRange addressAt writeRange writeBytes writeCommand hasSense senseOf notReady isBusy readFailed wholeProfile readProfile wholeDisc readStatus wholeInformation informationOf readInformation otherProfile unsuitable unusable mixedOrKept fits inOrder inTime inPiece isWrite standsIn
 bench-sheets =
     record {
       layouts = Layouts.bench-sheets;
@@ -39,4 +40,7 @@ bench-sheets =
       busy-valid = refl;
       deferred = refl;
       too-short = refl;
+      far-page = refl;
+      far-sheet = refl;
+      empty-track = refl;
     }

@@ -16,8 +16,11 @@ use Rattle.mmc.specs.declared.order.Kind.the-variants.{Audio, Data}
 use Rattle.mmc.specs.declared.order.Method.{Method}
 use Rattle.mmc.specs.declared.order.Method.the-variants.{Tao, Sao}
 use Rattle.recorder.specs.Answers.{number, bytesOf}
-use Rattle.recorder.specs.Script.{script}
+use Rattle.recorder.specs.declared.script.Op.{Op}
+use Rattle.recorder.specs.declared.script.Op.the-variants.{ModeSelect, SendCueSheet}
+use Rattle.recorder.specs.Script.{script, write as writing}
 use Rattle.recorder.specs.Rules.{Found, none, found, refusal, ruled, play}
+use Rattle.recorder.specs.Job.{stands}
 
 abbrev pub track : Kind → ℕ → Track
 track k l = record { kind = k; length = record { 0 = l } }
@@ -63,6 +66,10 @@ bytesAfter k o y = bytesOf (o .count) (ruled (pass o) (play (pass o) [] (replica
 abbrev pub failing : ℕ → ℕ → ℕ
 failing code n = after 0 (order Tao (300 ∷ [])) (plain 0 0 300) (replyOf false (take n (code ∷ 0 ∷ 0x02 ∷ (replicate 9 0 ++ (0x04 ∷ 0x08 ∷ [])))))
 
+-- whether a state at an operation, with the next block at a frame, passes the recorder's own test
+abbrev pub passes : Order → Op → ℕ → Bool
+passes o x at = stands o (record { place = x; seen = record { profile = 9; status = 0; at = record { 0 = at } } })
+
 pub record BenchSheets : Type 0 where
   -- those of the byte layouts
   pub layouts : Layouts.BenchSheets
@@ -105,3 +112,8 @@ pub record BenchSheets : Type 0 where
   pub busy-valid : failing 0xF0 14 ≡ 0
   pub deferred : failing 0x71 14 ≡ 12
   pub too-short : failing 0x70 13 ≡ 12
+  -- no forged state passes that a good reply would lead to a WRITE beyond its range: a page or a cue sheet far past the last frame,
+  -- and the last WRITE of a pause with a track of no block behind it
+  pub far-page : passes (order Tao (300 ∷ [])) (ModeSelect (record { 0 = 1 })) 4000000000 ≡ false
+  pub far-sheet : passes (order Sao (300 ∷ [])) SendCueSheet 4000000000 ≡ false
+  pub empty-track : passes (order Sao (0 ∷ [])) (writing 0 144 6) 144 ≡ false
