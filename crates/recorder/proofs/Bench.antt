@@ -3,7 +3,8 @@ use mathlib.Core.Path.{refl}
 use Rattle.mmc.specs.Bytes.{bytes32, be32}
 use Rattle.mmc.specs.Order.{allKind, allLong, blocksOf}
 use Rattle.mmc.specs.Times.{inRange, framesTo, addressAt}
-use Rattle.mmc.specs.Commands.{writeRange, writeBytes, writeCommand}
+use Rattle.mmc.specs.Commands.{writeRange, writeBytes, writeCommand, sendCueSheet, closeTrackSession}
+use Rattle.mmc.specs.Sheet.{sheetSize}
 use Rattle.mmc.proofs.Bench as Layouts
 use Rattle.recorder.specs.Replies.{hasSense, senseOf, notReady, isBusy, readFailed, wholeProfile, readProfile, wholeDisc, readStatus, wholeInformation, informationOf, readInformation}
 use Rattle.recorder.specs.Rules.{otherProfile, unsuitable, unusable, mixedOrKept, fits}
@@ -11,7 +12,7 @@ use Rattle.recorder.specs.Job.{inOrder, inTime, inPiece, isWrite, stands
 use Rattle.recorder.specs.Bench.{BenchSheets}
 
 pub bench-sheets : BenchSheets
-unfolding framesTo bytes32 be32 allKind allLong blocksOf inRange addressAt writeRange writeBytes writeCommand hasSense senseOf notReady isBusy readFailed wholeProfile readProfile wholeDisc readStatus wholeInformation informationOf readInformation otherProfile unsuitable unusable mixedOrKept fits inOrder inTime inPiece isWrite standsIn
+unfolding sheetSize sendCueSheet closeTrackSession framesTo bytes32 be32 allKind allLong blocksOf inRange addressAt writeRange writeBytes writeCommand hasSense senseOf notReady isBusy readFailed wholeProfile readProfile wholeDisc readStatus wholeInformation informationOf readInformation otherProfile unsuitable unusable mixedOrKept fits inOrder inTime inPiece isWrite standsIn
 bench-sheets =
     record {
       layouts = Layouts.bench-sheets;
@@ -27,6 +28,7 @@ bench-sheets =
       sao-count = refl;
       two-count = refl;
       write = refl;
+      commands = refl;
       finalized = refl;
       appendable = refl;
       other-profile = refl;
@@ -35,11 +37,24 @@ bench-sheets =
       rewritable = refl;
       mixed = refl;
       kept = refl;
+      tao-free = refl;
       other-type = refl;
       busy = refl;
       busy-valid = refl;
       deferred = refl;
       too-short = refl;
+      not-busy = refl;
+      triple = refl;
+      deferred-triple = refl;
+      no-triple = refl;
+      short-triple = refl;
+      least-bytes = refl;
+      least-46 = refl;
+      least-51 = refl;
+      least-52 = refl;
+      other-bits = refl;
+      wide-profile = refl;
+      unsigned = refl;
       far-page = refl;
       far-sheet = refl;
       empty-track = refl;

@@ -3,7 +3,7 @@ use mathlib.Core.Path.{_≡_}
 use mathlib.Core.Bool.{Bool, true, false}
 use mathlib.Core.List.{List, [], _∷_, _++_}
 use Prim.Native.Nat.{ℕ, _-_}
-use lib.ListN.{length, take, replicate}
+use lib.ListN.{length, take, drop, replicate}
 use Rattle.mmc.specs.Bench as Layouts
 use Rattle.mmc.specs.Bytes.{bytes32}
 use Rattle.mmc.specs.Refusals.{pass}
@@ -15,10 +15,11 @@ use Rattle.mmc.specs.declared.order.Kind.{Kind}
 use Rattle.mmc.specs.declared.order.Kind.the-variants.{Audio, Data}
 use Rattle.mmc.specs.declared.order.Method.{Method}
 use Rattle.mmc.specs.declared.order.Method.the-variants.{Tao, Sao}
-use Rattle.recorder.specs.Answers.{number, bytesOf}
+use Rattle.recorder.specs.Answers.{drive-failed, number, bytesOf}
 use Rattle.recorder.specs.declared.script.Op.{Op}
 use Rattle.recorder.specs.declared.script.Op.the-variants.{ModeSelect, SendCueSheet}
 use Rattle.recorder.specs.Script.{script, write as writing}
+use Rattle.recorder.specs.Replies.{noSense}
 use Rattle.recorder.specs.Rules.{Found, none, found, refusal, ruled, play}
 use Rattle.recorder.specs.Job.{stands}
 
@@ -62,9 +63,28 @@ opened o y = after 2 o y y
 abbrev pub bytesAfter : ℕ → Order → Reply → List ℕ
 bytesAfter k o y = bytesOf (o .count) (ruled (pass o) (play (pass o) [] (replicate k y)))
 
--- a failed reply to 46h with a response code and sense 02h/04h/08h in so many bytes
+-- a failed reply of so many bytes: a response code, a sense key's byte, an additional sense code and its qualifier
+abbrev pub failed : ℕ → ℕ → ℕ → ℕ → ℕ → Reply
+failed n code key asc ascq = replyOf false (take n (code ∷ 0 ∷ key ∷ (replicate 9 0 ++ (asc ∷ ascq ∷ []))))
+
+-- the first refusal where a reply answers the first command
+abbrev pub first : Reply → Found
+first y = refusal (pass (order Tao (300 ∷ []))) (play (pass (order Tao (300 ∷ []))) [] (y ∷ []))
+
+-- the same of a failed reply with sense 02h/04h/08h, by its number
 abbrev pub failing : ℕ → ℕ → ℕ
-failing code n = after 0 (order Tao (300 ∷ [])) (plain 0 0 300) (replyOf false (take n (code ∷ 0 ∷ 0x02 ∷ (replicate 9 0 ++ (0x04 ∷ 0x08 ∷ [])))))
+failing code n = numberIn (first (failed n code 0x02 0x04 0x08))
+
+-- a good reply with another beginning, and one of so many bytes
+abbrev pub headed : List ℕ → Reply → Reply
+headed h y = replyOf true (h ++ drop (length h) (y .bytes))
+
+abbrev pub cut : ℕ → Reply → Reply
+cut n y = replyOf true (take n (y .bytes))
+
+-- the first refusal of a track at once of 300 blocks where so changed a reply follows k plain ones
+abbrev pub changed : ℕ → (Reply → Reply) → ℕ
+changed k g = after k (order Tao (300 ∷ [])) (plain 0 0 300) (g (plain 0 0 300))
 
 -- whether a state at an operation, with the next block at a frame, passes the recorder's own test
 abbrev pub passes : Order → Op → ℕ → Bool
@@ -91,6 +111,20 @@ pub record BenchSheets : Type 0 where
   pub two-count : length (script (order Tao (300 ∷ 317 ∷ []))) ≡ 50
   -- first SAO WRITE
   pub write : bytesAfter 5 (order Sao (300 ∷ [])) (plain 0 0 300) ≡ 0x2A ∷ 0x00 ∷ 0xFF ∷ 0xFF ∷ 0xFF ∷ 0x6A ∷ 0x00 ∷ 0x00 ∷ 0x10 ∷ 0x00 ∷ []
+  -- 55h, 35h, 5Bh for the track and 5Bh for the session in a track at once; 5Dh in a session at once
+  pub commands :
+      bytesAfter 3 (order Tao (300 ∷ [])) (plain 0 0 300)
+      ∷ bytesAfter 23 (order Tao (300 ∷ [])) (plain 0 0 300)
+      ∷ bytesAfter 24 (order Tao (300 ∷ [])) (plain 0 0 300)
+      ∷ bytesAfter 25 (order Tao (300 ∷ [])) (plain 0 0 300)
+      ∷ bytesAfter 4 (order Sao (300 ∷ [])) (plain 0 0 300)
+      ∷ []
+      ≡ (0x55 ∷ 0x10 ∷ 0 ∷ 0 ∷ 0 ∷ 0 ∷ 0 ∷ 0 ∷ 60 ∷ 0 ∷ [])
+      ∷ (0x35 ∷ 0 ∷ 0 ∷ 0 ∷ 0 ∷ 0 ∷ 0 ∷ 0 ∷ 0 ∷ 0 ∷ [])
+      ∷ (0x5B ∷ 0 ∷ 1 ∷ 0 ∷ 0 ∷ 0xFF ∷ 0 ∷ 0 ∷ 0 ∷ 0 ∷ [])
+      ∷ (0x5B ∷ 0 ∷ 2 ∷ 0 ∷ 0 ∷ 0 ∷ 0 ∷ 0 ∷ 0 ∷ 0 ∷ [])
+      ∷ (0x5D ∷ 0 ∷ 0 ∷ 0 ∷ 0 ∷ 0 ∷ 0 ∷ 0 ∷ 32 ∷ 0 ∷ [])
+      ∷ []
   -- finalized disc and a 299-block track: 6
   pub finalized : opened (order Tao (299 ∷ [])) (plain 2 0 299) ≡ 6
   -- a session at once on an appendable disc: 6
@@ -105,6 +139,8 @@ pub record BenchSheets : Type 0 where
   -- a session at once of mixed kinds, and one to be kept appendable: 8
   pub mixed : opened (orderOf Sao false (track Audio 300 ∷ track Data 300 ∷ [])) (plain 0 0 600) ≡ 8
   pub kept : opened (orderOf Sao true (audio (300 ∷ []))) (plain 0 0 300) ≡ 8
+  -- neither is refused in a track at once
+  pub tao-free : opened (orderOf Tao true (track Audio 300 ∷ track Data 300 ∷ [])) (plain 0 0 600) ≡ 0
   -- a reply to 51h of another type: 4
   pub other-type : opened (order Tao (300 ∷ [])) (plain 32 0 300) ≡ 4
   -- busy by the codes 70h and F0h; not by the deferred code 71h, nor with 13 bytes
@@ -112,6 +148,29 @@ pub record BenchSheets : Type 0 where
   pub busy-valid : failing 0xF0 14 ≡ 0
   pub deferred : failing 0x71 14 ≡ 12
   pub too-short : failing 0x70 13 ≡ 12
+  -- nor by a neighbouring triple
+  pub not-busy :
+      numberIn (first (failed 14 0x70 0x02 0x04 0x07))
+      ∷ numberIn (first (failed 14 0x70 0x02 0x04 0x09))
+      ∷ numberIn (first (failed 14 0x70 0x02 0x05 0x08))
+      ∷ numberIn (first (failed 14 0x70 0x03 0x04 0x08))
+      ∷ []
+      ≡ replicate 4 12
+  -- the triple that comes with 12: the key is byte 2 modulo 16, by the codes 70h and 71h; zeros by another code, and with 13 bytes
+  pub triple : first (failed 14 0x70 0xF9 0x0C 0x02) ≡ found (drive-failed (record { key = 0x09; asc = 0x0C; ascq = 0x02 }))
+  pub deferred-triple : first (failed 14 0x71 0x03 0x0C 0x02) ≡ found (drive-failed (record { key = 0x03; asc = 0x0C; ascq = 0x02 }))
+  pub no-triple : first (failed 14 0x72 0x03 0x0C 0x02) ≡ found (drive-failed noSense)
+  pub short-triple : first (failed 13 0x70 0x03 0x0C 0x02) ≡ found (drive-failed noSense)
+  -- the least bytes of the replies to 46h, 51h and 52h, and the least that their length fields say
+  pub least-bytes : changed 0 (cut 7) ∷ changed 0 (cut 8) ∷ changed 1 (cut 33) ∷ changed 1 (cut 34) ∷ changed 2 (cut 27) ∷ changed 2 (cut 28) ∷ [] ≡ 4 ∷ 0 ∷ 4 ∷ 0 ∷ 4 ∷ 0 ∷ []
+  pub least-46 : changed 0 (headed (0 ∷ 0 ∷ 0 ∷ 3 ∷ [])) ∷ changed 0 (headed (0 ∷ 0 ∷ 0 ∷ 4 ∷ [])) ∷ [] ≡ 4 ∷ 0 ∷ []
+  pub least-51 : changed 1 (headed (0 ∷ 31 ∷ [])) ∷ changed 1 (headed (0 ∷ 32 ∷ [])) ∷ [] ≡ 4 ∷ 0 ∷ []
+  pub least-52 : changed 2 (headed (0 ∷ 25 ∷ [])) ∷ changed 2 (headed (0 ∷ 26 ∷ [])) ∷ [] ≡ 4 ∷ 0 ∷ []
+  -- the other bits of bytes 2 and 5 say nothing
+  pub other-bits : opened (order Tao (300 ∷ [])) (saying 0x1C 0xDF 9 0 300) ≡ 0
+  -- the profile has two bytes, an address four, and is unsigned
+  pub wide-profile : opened (order Tao (300 ∷ [])) (headed (0 ∷ 32 ∷ 0 ∷ 0 ∷ 0 ∷ 0 ∷ 1 ∷ 9 ∷ []) (plain 0 0 300)) ≡ 5
+  pub unsigned : opened (order Tao (300 ∷ [])) (plain 0 0xFFFFFFFF 300) ≡ 10
   -- no forged state passes that a good reply would lead to a WRITE beyond its range: a page or a cue sheet far past the last frame,
   -- and the last WRITE of a pause with a track of no block behind it
   pub far-page : passes (order Tao (300 ∷ [])) (ModeSelect (record { 0 = 1 })) 4000000000 ≡ false
