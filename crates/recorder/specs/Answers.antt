@@ -1,12 +1,13 @@
 -- What the answers say, in document 01's numbers and values.
+use mathlib.Core.Bool.{Bool}
 use mathlib.Core.List.{List, [], _++_}
 use Prim.Native.Nat.{ℕ, _+_, _-_, _*_}
 use lib.ListN.{length, take, replicate}
 use Rattle.mmc.specs.Refusals.{Outcome, pass, numberOf, valueOr}
-use Rattle.mmc.specs.Commands.{getConfiguration, readDiscInformation, readTrackInformation, modeSelect, sendCueSheet, writeCommand, synchronizeCache, closeTrackSession}
+use Rattle.mmc.specs.Commands.{getConfiguration, readDiscInformation, readTrackInformation, modeSelect, sendCueSheet, writeCommand, synchronizeCache, closeTrackSession, testUnitReady, requestSense}
 use Rattle.recorder.specs.declared.replies.Sense.{Sense}
 use Rattle.recorder.specs.declared.script.Op.{Op}
-use Rattle.recorder.specs.declared.script.Op.the-variants.{GetConfiguration, ReadDiscInformation, ReadTrackInformation, ModeSelect, SendCueSheet, Write, SynchronizeCache, CloseTrack, CloseSession}
+use Rattle.recorder.specs.declared.script.Op.the-variants.{GetConfiguration, ReadDiscInformation, ReadTrackInformation, ModeSelect, SendCueSheet, Write, SynchronizeCache, CloseTrack, CloseSession, TestUnitReady, RequestSense}
 use Rattle.mmc.specs.declared.units.BlockAddress.{BlockAddress}
 use Rattle.recorder.specs.declared.answers.Command.{Command}
 use Rattle.recorder.specs.declared.answers.Cdb.{Cdb}
@@ -41,26 +42,29 @@ said (A.DriveFailed s) = stop (drive-failed s)
 abbrev pub sheetBytes : ℕ → ℕ
 sheetBytes n = 8 * (n + 3)
 
--- those of its maker, in a job of n tracks: a WRITE starts at the command's address, "5Bh function 1, track FFh", "5Bh function 2, track 0"
-abbrev pub madeBy : ℕ → BlockAddress → Op → Outcome (List ℕ)
-madeBy n a GetConfiguration = pass getConfiguration
-madeBy n a ReadDiscInformation = pass readDiscInformation
-madeBy n a (ReadTrackInformation t) = pass readTrackInformation
-madeBy n a (ModeSelect t) = pass modeSelect
-madeBy n a SendCueSheet = sendCueSheet (sheetBytes n)
-madeBy n a (Write t f k) = writeCommand a k
-madeBy n a (SynchronizeCache t) = pass synchronizeCache
-madeBy n a (CloseTrack t) = closeTrackSession 1 (record { 0 = 0xFF })
-madeBy n a CloseSession = closeTrackSession 2 (record { 0 = 0 })
+-- those of its maker, in a job of n tracks: a WRITE starts at the command's address, "5Bh function 1, track FFh", "5Bh function 2, track 0",
+-- "With flag bit 2, Immed is set in 35h .. and 5Bh"
+abbrev pub madeBy : Bool → ℕ → BlockAddress → Op → Outcome (List ℕ)
+madeBy immed n a GetConfiguration = pass getConfiguration
+madeBy immed n a ReadDiscInformation = pass readDiscInformation
+madeBy immed n a (ReadTrackInformation t) = pass readTrackInformation
+madeBy immed n a (ModeSelect t) = pass modeSelect
+madeBy immed n a SendCueSheet = sendCueSheet (sheetBytes n)
+madeBy immed n a (Write t f k) = writeCommand a k
+madeBy immed n a (SynchronizeCache t) = pass (synchronizeCache immed)
+madeBy immed n a (CloseTrack t) = closeTrackSession immed 1 (record { 0 = 0xFF })
+madeBy immed n a CloseSession = closeTrackSession immed 2 (record { 0 = 0 })
+madeBy immed n a TestUnitReady = pass testUnitReady
+madeBy immed n a RequestSense = pass requestSense
 
-abbrev pub madeFor : ℕ → Command → Outcome (List ℕ)
-madeFor n c = madeBy n (c .address) (c .op)
+abbrev pub madeFor : Bool → ℕ → Command → Outcome (List ℕ)
+madeFor immed n c = madeBy immed n (c .address) (c .op)
 
 -- the bytes that go with an answer: none where no command is given
-abbrev pub bytesOf : ℕ → Ruling → List ℕ
-bytesOf n (issue c) = valueOr [] (madeFor n c)
-bytesOf n done = []
-bytesOf n (stop w) = []
+abbrev pub bytesOf : Bool → ℕ → Ruling → List ℕ
+bytesOf immed n (issue c) = valueOr [] (madeFor immed n c)
+bytesOf immed n done = []
+bytesOf immed n (stop w) = []
 
 -- a command descriptor block of these bytes, with zeros up to twelve
 unfoldable pub cdbOf : List ℕ → Cdb

@@ -1,6 +1,8 @@
 -- Commands and the replies to them, the latest first, and what is read off a list of them.
+use mathlib.Core.Bool.{Bool, true, false, not, _&&_}
 use mathlib.Core.List.{List, [], _∷_, _++_}
 use Prim.Native.Nat.{ℕ, zero, suc, _+_}
+use lib.Dec.{eqb}
 use Rattle.mmc.specs.Bytes.{if}
 use Rattle.mmc.specs.Times.{framesTo}
 use Rattle.mmc.specs.ReplyBlock.{Reply}
@@ -10,10 +12,10 @@ use Rattle.recorder.specs.declared.script.Op.{Op}
 use Rattle.recorder.specs.declared.answers.Command.{Command}
 use Rattle.recorder.specs.declared.replies.TrackInformation.{TrackInformation}
 use Rattle.recorder.specs.declared.replies.Reading.{Reading}
-use Rattle.recorder.specs.declared.replies.Reading.the-variants.{Busy, Failed, Malformed, Profile, Status, Information, Unread}
+use Rattle.recorder.specs.declared.replies.Reading.the-variants.{Busy, NotReady, Failed, Malformed, Profile, Status, Information, ProgressIndication, Unread}
 use Rattle.recorder.specs.declared.exchanges.Seen.{Seen}
-use Rattle.recorder.specs.Replies.{reading, ofInformation}
-use Rattle.recorder.specs.Script.{trackIn, ofWrite, countIn, stepwise, Block, blocksIn, closingIn}
+use Rattle.recorder.specs.Replies.{isBusy, reading, ofInformation, ofProgress}
+use Rattle.recorder.specs.Script.{trackIn, ofWrite, countIn, isClosing, asksReady, isPolled, stepwise, Block, blocksIn, closingIn}
 
 -- "the commands given so far and the replies to them"
 pub record Exchange : Type 0 where
@@ -58,10 +60,35 @@ occupied es = gathered placesIn es
 abbrev pub closed : List Exchange → List Op
 closed es = gathered (doneIn closingIn) es
 
--- ---- what was seen: all that the rules look at. Its last field is where the next block goes, in frames
+-- ---- the polling
+
+-- the latest 00h was answered good, and what came after it was busy
+abbrev pub wasReady : List Exchange → Bool
+wasReady [] = false
+wasReady (e ∷ es) = if (asksReady (e .command .op)) (e .reply .good) ((not (e .reply .good) && isBusy (e .reply .bytes)) && wasReady es)
+
+-- "After each such good reply the recorder sends 00h and then 03h ..
+abbrev pub begins : Bool → Exchange → Bool
+begins immed e = isPolled immed (e .command .op) && e .reply .good
+
+-- .. until 00h succeeds and the 03h after it reports progress 0"
+abbrev pub ends : List Exchange → Exchange → Bool
+ends es e = wasReady es && ofProgress false (λ n. eqb n 0) (read e)
+
+-- a polling is under way
+abbrev pub polling : Bool → List Exchange → Bool
+polling immed [] = false
+polling immed (e ∷ es) = if (begins immed e) true (if (ends es e) false (polling immed es))
+
+-- "the latest progress of a polling under way"; it is 0 before the first 03h
+abbrev pub progress : List Exchange → ℕ
+progress [] = 0
+progress (e ∷ es) = if (isClosing (e .command .op) && e .reply .good) 0 (ofProgress (progress es) (λ n. n) (read e))
+
+-- ---- what was seen: all that the rules look at, where the next block goes in frames, and the latest progress, for the panel
 
 abbrev pub nothingSeen : Seen
-nothingSeen = record { profile = 0; status = 0; at = record { 0 = 0 } }
+nothingSeen = record { profile = 0; status = 0; at = record { 0 = 0 }; ready = false; progress = 0 }
 
 -- "In TAO a track starts at the address of its latest 52h"
 abbrev pub startAt : Method → FrameCount → TrackInformation → FrameCount
@@ -71,15 +98,25 @@ startAt m at i = if (stepwise m) (framesTo (i .address)) at
 abbrev pub past : Op → FrameCount → FrameCount
 past x at = ofWrite at (λ t f k. record { 0 = at .0 + k }) x
 
+-- a polling begins anew with each closing command
+abbrev pub progressPast : Op → ℕ → ℕ
+progressPast x n = if (isClosing x) 0 n
+
+-- no 00h was answered good since
+abbrev pub unreadySeen : Seen → Seen
+unreadySeen v = record { profile = v .profile; status = v .status; at = v .at; ready = false; progress = v .progress }
+
 -- by what a reply to an operation says
 abbrev pub see : Method → Op → Reading → Seen → Seen
 see m x Busy v = v
-see m x (Failed s) v = v
-see m x Malformed v = v
-see m x (Profile p) v = record { profile = p; status = v .status; at = v .at }
-see m x (Status q) v = record { profile = v .profile; status = q; at = v .at }
-see m x (Information i) v = record { profile = v .profile; status = v .status; at = startAt m (v .at) i }
-see m x Unread v = record { profile = v .profile; status = v .status; at = past x (v .at) }
+see m x NotReady v = unreadySeen v
+see m x (Failed s) v = unreadySeen v
+see m x Malformed v = unreadySeen v
+see m x (Profile p) v = record { profile = p; status = v .status; at = v .at; ready = false; progress = v .progress }
+see m x (Status q) v = record { profile = v .profile; status = q; at = v .at; ready = false; progress = v .progress }
+see m x (Information i) v = record { profile = v .profile; status = v .status; at = startAt m (v .at) i; ready = false; progress = v .progress }
+see m x (ProgressIndication n) v = record { profile = v .profile; status = v .status; at = v .at; ready = false; progress = n }
+see m x Unread v = record { profile = v .profile; status = v .status; at = past x (v .at); ready = asksReady x; progress = progressPast x (v .progress) }
 
 abbrev pub seen : Method → List Exchange → Seen
 seen m [] = nothingSeen

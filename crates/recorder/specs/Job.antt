@@ -2,7 +2,7 @@
 -- track, and the command count."
 use mathlib.Core.Path.{_≡_}
 use mathlib.Core.Bool.{Bool, true, false, not, _&&_}
-use mathlib.Core.List.{List}
+use mathlib.Core.List.{List, [], _∷_}
 use Prim.Native.Nat.{ℕ, suc, _+_, _-_, _^_, min}
 use lib.Dec.{ltb, leb, eqb}
 use Rattle.mmc.specs.Bytes.{if}
@@ -16,7 +16,7 @@ use Rattle.mmc.specs.declared.order.Order.{Order}
 use Rattle.mmc.specs.declared.order.Method.{Method}
 use Rattle.mmc.specs.declared.order.Method.the-variants.{Tao, Sao}
 use Rattle.recorder.specs.declared.script.Op.{Op}
-use Rattle.recorder.specs.declared.script.Op.the-variants.{GetConfiguration, ReadDiscInformation, ReadTrackInformation, ModeSelect, SendCueSheet, Write, SynchronizeCache, CloseTrack, CloseSession}
+use Rattle.recorder.specs.declared.script.Op.the-variants.{GetConfiguration, ReadDiscInformation, ReadTrackInformation, ModeSelect, SendCueSheet, Write, SynchronizeCache, CloseTrack, CloseSession, TestUnitReady, RequestSense}
 use Rattle.recorder.specs.declared.places.Following.{Following}
 use Rattle.recorder.specs.declared.places.Following.the-variants.{Next as Then, Nothing}
 use Rattle.recorder.specs.declared.answers.Command.{Command}
@@ -24,7 +24,9 @@ use Rattle.recorder.specs.declared.answers.Cdb.{Cdb}
 use Rattle.recorder.specs.declared.replies.Reading.{Reading}
 use Rattle.recorder.specs.declared.exchanges.Seen.{Seen}
 use Rattle.recorder.specs.declared.job.Phase.{Phase}
-use Rattle.recorder.specs.declared.job.Phase.the-variants.{Going, Finished, Stopped}
+use Rattle.recorder.specs.declared.job.Phase.the-variants.{Idle, Going, Finished, Stopped, Failed}
+use Rattle.recorder.specs.declared.job.Poll.{Poll}
+use Rattle.recorder.specs.declared.job.Poll.the-variants.{Off, Ready, Sense}
 use Rattle.recorder.specs.declared.job.Move.{Move}
 use Rattle.recorder.specs.declared.job.Move.the-variants as M
 use Rattle.recorder.specs.declared.job.Progress.{Progress}
@@ -32,16 +34,25 @@ use Rattle.recorder.specs.declared.job.Recorder.{Recorder}
 use Rattle.recorder.specs.declared.job.Step.{Step}
 use Rattle.recorder.specs.Replies.{reading, UnsignedIn, ForTrack}
 use Rattle.recorder.specs.Answers.{Why, because, drive-failed, Ruling, issue, done, stop, said, bytesOf, cdbOf}
-use Rattle.recorder.specs.Script.{portion, trackIn, stepwise}
+use Rattle.recorder.specs.Script.{portion, trackIn, isClosing, isPolled, stepwise}
 use Rattle.recorder.specs.Places.{pieceOf, afterIn}
 use Rattle.recorder.specs.Exchanges.{nothingSeen, see}
 use Rattle.recorder.specs.Rules.{lastFrame, Judgement, again, onward, refused, judge}
 
 -- ---- what a reply leads to
 
--- the command whose reply the job waits for
+-- the operation whose reply the job waits for: that of its place, or a poll
+abbrev pub dueAt : Op → Poll → Op
+dueAt x Off = x
+dueAt x Ready = TestUnitReady
+dueAt x Sense = RequestSense
+
+abbrev pub dueIn : Progress → Op
+dueIn s = dueAt (s .place) (s .poll)
+
+-- and its command
 abbrev pub commandOf : Progress → Command
-commandOf s = record { op = s .place; address = addressAt (s .seen .at) }
+commandOf s = record { op = dueIn s; address = addressAt (s .seen .at) }
 
 -- the next command, the end as done, or a stop
 pub data Turn : Type 0 where
@@ -57,18 +68,29 @@ turnIn (M.Halt r) = halt (because (numberOf r))
 turnIn (M.Fail x) = halt (drive-failed x)
 
 abbrev pub advanced : Following → Seen → Turn
-advanced (Then x) v = goes (record { place = x; seen = v })
+advanced (Then x) v = goes (record { place = x; poll = Off; seen = v })
 advanced Nothing v = finish
+
+-- "00h and then 03h"; else the polling, or an operation that is not polled, has ended
+abbrev pub onwardBy : Poll → Op → Following → Seen → Turn
+onwardBy Off x f v = advanced f v
+onwardBy Ready x f v = goes (record { place = x; poll = Sense; seen = v })
+onwardBy Sense x f v = advanced f v
+
+-- with polls in front the job stays where it is
+abbrev pub onwardWith : List Op → Poll → Op → Following → Seen → Turn
+onwardWith [] p x f v = onwardBy p x f v
+onwardWith (y ∷ ys) p x f v = goes (record { place = x; poll = Ready; seen = v })
 
 -- "Busy: the same command again. Failed otherwise: the end ..  Good: if numbers judged there apply, the end with the one that comes
 -- first; else the next command by the rules above, and after the last one the end as done."
 abbrev pub turnBy : Judgement → Order → Progress → Reading → Turn
 turnBy again o s r = goes s
-turnBy (onward xs) o s r = advanced (afterIn o (s .place)) (see (o .method) (s .place) r (s .seen))
+turnBy (onward xs) o s r = onwardWith xs (s .poll) (s .place) (afterIn o (s .place)) (see (o .method) (dueIn s) r (s .seen))
 turnBy (refused w) o s r = halt w
 
 abbrev pub turnOf : Order → Progress → Reading → Turn
-turnOf o s r = turnBy (judge o (s .seen) (s .place) r) o s r
+turnOf o s r = turnBy (judge o (s .seen) (dueIn s) r) o s r
 
 -- ---- the step
 
@@ -93,13 +115,18 @@ abbrev pub stateOf : Order → Progress → Phase → ℕ → Recorder
 stateOf o s p n = record { order = o; progress = s; phase = p; count = n }
 
 abbrev pub nextOf : Recorder → Ruling → Next
-nextOf r a = record { state = r; answer = a; count = r .count; cdb = cdbOf (bytesOf (r .order .count) a) }
+nextOf r a = record { state = r; answer = a; count = r .count; cdb = cdbOf (bytesOf (r .order .immed) (r .order .count) a) }
+
+-- how a stopped job stays
+abbrev pub phaseOf : Why → Phase
+phaseOf (because n) = Stopped n
+phaseOf (drive-failed x) = Failed x
 
 -- a command is given, the job is done, or it stops
 abbrev pub stepOf : Order → Progress → ℕ → Turn → Next
 stepOf o s n (goes t) = nextOf (stateOf o t Going (oneMore n)) (issue (commandOf t))
 stepOf o s n finish = nextOf (stateOf o s Finished n) done
-stepOf o s n (halt w) = nextOf (stateOf o s Stopped n) (stop w)
+stepOf o s n (halt w) = nextOf (stateOf o s (phaseOf w) n) (stop w)
 
 -- a refusal that leaves the state as it was
 abbrev pub unchanged : Recorder → ℕ → Next
@@ -135,27 +162,44 @@ standsAt m n l k at (Write t f c) = inPiece m n k (t .0) && isWrite l (f .0) (c 
 standsAt m n l k at (SynchronizeCache t) = inOrder n (t .0)
 standsAt m n l k at (CloseTrack t) = stepwise m && inOrder n (t .0)
 standsAt m n l k at CloseSession = stepwise m
+standsAt m n l k at TestUnitReady = false
+standsAt m n l k at RequestSense = false
 
 -- in an order of 1 to 99 tracks
 unfoldable pub standsIn : Method → ℕ → ℕ → ℕ → FrameCount → Op → Bool
 standsIn m n l k at x = leb 1 n && (leb n mostTracks && standsAt m n l k at x)
 
+-- a poll is of an operation that is polled
+abbrev pub standsPolled : Bool → Op → Poll → Bool
+standsPolled immed x Off = true
+standsPolled immed x Ready = isPolled immed x
+standsPolled immed x Sense = isPolled immed x
+
 abbrev pub stands : Order → Progress → Bool
-stands o s = standsIn (o .method) (o .count) (pieceOf o (trackIn (s .place))) (pieceOf o (suc (trackIn (s .place)))) (s .seen .at) (s .place)
+stands o s =
+    standsPolled (o .immed) (s .place) (s .poll) &&
+    standsIn (o .method) (o .count) (pieceOf o (trackIn (s .place))) (pieceOf o (suc (trackIn (s .place)))) (s .seen .at) (s .place)
 
-abbrev pub endedAt : Phase → Bool
-endedAt Going = false
-endedAt Finished = true
-endedAt Stopped = true
+-- no reply is awaited
+abbrev pub restsAt : Phase → Bool
+restsAt Idle = true
+restsAt Going = false
+restsAt Finished = true
+restsAt (Stopped n) = true
+restsAt (Failed x) = true
 
--- an ended job passes, whatever it holds
+-- such a one passes, whatever it holds
 unfoldable pub validOf : Recorder → Bool
-validOf r = if (endedAt (r .phase)) true (stands (r .order) (r .progress))
+validOf r = if (restsAt (r .phase)) true (stands (r .order) (r .progress))
 
 -- ---- taking an order, and giving a reply
 
 abbrev pub opening : Progress
-opening = record { place = GetConfiguration; seen = nothingSeen }
+opening = record { place = GetConfiguration; poll = Off; seen = nothingSeen }
+
+-- "Idle is before any order"
+abbrev pub idleRecorder : Recorder
+idleRecorder = stateOf noOrder opening Idle 0
 
 -- "An order that 1 to 3 refuse gives no command: the job ends at once with that number, and the command count is 0. For any other,
 -- 46h comes first and the command count is 1."
@@ -166,13 +210,14 @@ takenAs (refuse n) = stepOf noOrder opening 0 (halt (because n))
 unfoldable pub takeOf : List ℕ → Next
 takeOf b = takenAs (readOrder b)
 
--- "Then each reply is one step. To an ended job: 13, and nothing changes." 3 for a state that fails the test, which an ended one passes.
+-- "Then each reply is one step. To an ended job: 13, and nothing changes." Idle: "a reply then is 13". 3 for a state that fails the test,
+-- which these pass.
 unfoldable pub giveOf : Recorder → Bool → List ℕ → Next
 giveOf r good d =
-    if (endedAt (r .phase))
+    if (restsAt (r .phase))
     (unchanged r 13)
     (if (stands (r .order) (r .progress))
-    (stepOf (r .order) (r .progress) (r .count) (turnOf (r .order) (r .progress) (reading (r .progress .place) (replyOf good d))))
+    (stepOf (r .order) (r .progress) (r .count) (turnOf (r .order) (r .progress) (reading (dueIn (r .progress)) (replyOf good d))))
     (unchanged r 3))
 
 -- what the inner step asks for: a state that passes the test, and a reading of a reply to its command
@@ -181,4 +226,4 @@ pub record Ready (o : Order) (s : Progress) (length next : ℕ) (r : Reading) : 
   pub next-is : next ≡ pieceOf o (suc (trackIn (s .place)))
   pub passes : stands o s ≡ true
   pub unsigned : UnsignedIn r
-  pub for-track : ForTrack (trackIn (s .place)) r
+  pub for-track : ForTrack (trackIn (dueIn s)) r

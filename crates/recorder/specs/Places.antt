@@ -1,4 +1,5 @@
--- The places of the plain job: which operation comes after another. The rules don't speak of them: they have the script.
+-- The places of the plain job: which operation comes after another. The rules don't speak of them: they have the script. A poll has no
+-- place of its own: the job stays at the operation that is polled.
 use Prim.Native.Nat.{ℕ, zero, suc, _+_}
 use lib.ListN.{getD}
 use lib.Dec.{ltb}
@@ -9,7 +10,7 @@ use Rattle.mmc.specs.declared.order.Order.{Order}
 use Rattle.mmc.specs.declared.order.Method.{Method}
 use Rattle.mmc.specs.declared.order.Method.the-variants.{Tao, Sao}
 use Rattle.recorder.specs.declared.script.Op.{Op}
-use Rattle.recorder.specs.declared.script.Op.the-variants.{GetConfiguration, ReadDiscInformation, ReadTrackInformation, ModeSelect, SendCueSheet, Write, SynchronizeCache, CloseTrack, CloseSession}
+use Rattle.recorder.specs.declared.script.Op.the-variants.{GetConfiguration, ReadDiscInformation, ReadTrackInformation, ModeSelect, SendCueSheet, Write, SynchronizeCache, CloseTrack, CloseSession, TestUnitReady, RequestSense}
 use Rattle.recorder.specs.declared.places.Following.{Following}
 use Rattle.recorder.specs.declared.places.Following.the-variants.{Next as Then, Nothing}
 use Rattle.recorder.specs.Script.{write, portion, trackIn, ofWrite}
@@ -53,6 +54,8 @@ opAfter m n l k (Write t f c) = Then (beforeBlock m n l k (t .0) (f .0 + c .0))
 opAfter m n l k (SynchronizeCache t) = afterSynchronize m (t .0)
 opAfter m n l k (CloseTrack t) = Then (afterCloseTrack n (t .0))
 opAfter m n l k CloseSession = Nothing
+opAfter m n l k TestUnitReady = Nothing
+opAfter m n l k RequestSense = Nothing
 
 -- the blocks of a piece of the job: of the pause, or of the track t
 abbrev pub pieceOf : Order → ℕ → ℕ

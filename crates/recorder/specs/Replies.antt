@@ -10,11 +10,12 @@ use Rattle.mmc.specs.Bytes.{if, be16, be32}
 use Rattle.mmc.specs.ReplyBlock.{Reply}
 use Rattle.mmc.specs.declared.units.BlockAddress.{BlockAddress}
 use Rattle.recorder.specs.declared.script.Op.{Op}
-use Rattle.recorder.specs.declared.script.Op.the-variants.{GetConfiguration, ReadDiscInformation, ReadTrackInformation, ModeSelect, SendCueSheet, Write, SynchronizeCache, CloseTrack, CloseSession}
+use Rattle.recorder.specs.Script.{asksReady}
+use Rattle.recorder.specs.declared.script.Op.the-variants.{GetConfiguration, ReadDiscInformation, ReadTrackInformation, ModeSelect, SendCueSheet, Write, SynchronizeCache, CloseTrack, CloseSession, TestUnitReady, RequestSense}
 use Rattle.recorder.specs.declared.replies.Sense.{Sense}
 use Rattle.recorder.specs.declared.replies.TrackInformation.{TrackInformation}
 use Rattle.recorder.specs.declared.replies.Reading.{Reading}
-use Rattle.recorder.specs.declared.replies.Reading.the-variants.{Busy, Failed, Malformed, Profile, Status, Information, Unread}
+use Rattle.recorder.specs.declared.replies.Reading.the-variants.{Busy, NotReady, Failed, Malformed, Profile, Status, Information, ProgressIndication, Unread}
 
 abbrev pub byte : List ℕ → ℕ → ℕ
 byte d i = getD d i 0
@@ -36,16 +37,26 @@ unfoldable pub senseOf : List ℕ → Sense
 senseOf d = if (hasSense d) (record { key = byte d 2 % 16; asc = byte d 12; ascq = byte d 13 }) noSense
 
 -- "Busy is code 70h with 02h/04h/08h"
-unfoldable pub notReady : Sense → Bool
-notReady s = eqb (s .key) 0x02 && (eqb (s .asc) 0x04 && eqb (s .ascq) 0x08)
+unfoldable pub longWrite : Sense → Bool
+longWrite s = eqb (s .key) 0x02 && (eqb (s .asc) 0x04 && eqb (s .ascq) 0x08)
 
 unfoldable pub isBusy : List ℕ → Bool
-isBusy d = eqb (responseCode d) 0x70 && notReady (senseOf d)
+isBusy d = eqb (responseCode d) 0x70 && longWrite (senseOf d)
 
 unfoldable pub readFailed : List ℕ → Reading
 readFailed d = if (isBusy d) Busy (Failed (senseOf d))
 
--- ---- the good replies to 46h, 51h and 52h: malformed, which is 4, where "too short or of another type"
+-- "a 00h that fails with code 70h and 02h/04h, any ASCQ (a 00h is never busy)"
+unfoldable pub notReady : Sense → Bool
+notReady s = eqb (s .key) 0x02 && eqb (s .asc) 0x04
+
+unfoldable pub isUnready : List ℕ → Bool
+isUnready d = eqb (responseCode d) 0x70 && notReady (senseOf d)
+
+unfoldable pub readUnready : List ℕ → Reading
+readUnready d = if (isUnready d) NotReady (Failed (senseOf d))
+
+-- ---- the good replies to 46h, 51h, 52h and 03h: malformed, which is 4, where "too short or of another type"
 
 -- 46h: "at least 8 bytes, length field (bytes 0 to 3) at least 4; profile in bytes 6 and 7"
 unfoldable pub wholeProfile : List ℕ → Bool
@@ -84,6 +95,13 @@ informationOf d =
 unfoldable pub readInformation : List ℕ → Reading
 readInformation d = if (wholeInformation d) (Information (informationOf d)) Malformed
 
+-- 03h: "4 for a good 03h reply under 18 bytes"; "Progress is bytes 16 and 17 .. when bit 7 of byte 15 is set, else 0"
+unfoldable pub progressOf : List ℕ → ℕ
+progressOf d = if (eqb (byte d 15 / 128 % 2) 1) (be16 (drop 16 d)) 0
+
+unfoldable pub readProgress : List ℕ → Reading
+readProgress d = if (leb 18 (length d)) (ProgressIndication (progressOf d)) Malformed
+
 -- ---- a reply to an operation
 
 -- "A data-less command's reply data is ignored."
@@ -97,29 +115,50 @@ readGood (Write t f k) d = Unread
 readGood (SynchronizeCache t) d = Unread
 readGood (CloseTrack t) d = Unread
 readGood CloseSession d = Unread
+readGood TestUnitReady d = Unread
+readGood RequestSense d = readProgress d
+
+abbrev pub failedBy : Op → List ℕ → Reading
+failedBy x d = if (asksReady x) (readUnready d) (readFailed d)
 
 abbrev pub reading : Op → Reply → Reading
-reading x y = if (y .good) (readGood x (y .bytes)) (readFailed (y .bytes))
+reading x y = if (y .good) (readGood x (y .bytes)) (failedBy x (y .bytes))
 
 -- what belongs to track information, and what to any other reading
 abbrev pub ofInformation : {B : Type 0} → B → (TrackInformation → B) → Reading → B
 ofInformation z g Busy = z
+ofInformation z g NotReady = z
 ofInformation z g (Failed s) = z
 ofInformation z g Malformed = z
 ofInformation z g (Profile p) = z
 ofInformation z g (Status q) = z
 ofInformation z g (Information i) = g i
+ofInformation z g (ProgressIndication p) = z
 ofInformation z g Unread = z
+
+-- what belongs to a progress indication, and what to any other reading
+abbrev pub ofProgress : {B : Type 0} → B → (ℕ → B) → Reading → B
+ofProgress z g Busy = z
+ofProgress z g NotReady = z
+ofProgress z g (Failed s) = z
+ofProgress z g Malformed = z
+ofProgress z g (Profile p) = z
+ofProgress z g (Status q) = z
+ofProgress z g (Information i) = z
+ofProgress z g (ProgressIndication p) = g p
+ofProgress z g Unread = z
 
 -- ---- what the inner routines ask for: of track information an address of four bytes, and a track
 
 abbrev pub OfInformation : (TrackInformation → Type 0) → Reading → Type 0
 OfInformation P Busy = Unit {0}
+OfInformation P NotReady = Unit {0}
 OfInformation P (Failed s) = Unit {0}
 OfInformation P Malformed = Unit {0}
 OfInformation P (Profile p) = Unit {0}
 OfInformation P (Status q) = Unit {0}
 OfInformation P (Information i) = P i
+OfInformation P (ProgressIndication p) = Unit {0}
 OfInformation P Unread = Unit {0}
 
 abbrev pub Unsigned : BlockAddress → Type 0

@@ -18,14 +18,14 @@ use Rattle.recorder.specs.declared.script.Op.{Op}
 use Rattle.recorder.specs.declared.answers.Command.{Command}
 use Rattle.recorder.specs.declared.replies.TrackInformation.{TrackInformation}
 use Rattle.recorder.specs.declared.replies.Reading.{Reading}
-use Rattle.recorder.specs.declared.replies.Reading.the-variants.{Busy, Failed, Malformed, Profile, Status, Information, Unread}
+use Rattle.recorder.specs.declared.replies.Reading.the-variants.{Busy, NotReady, Failed, Malformed, Profile, Status, Information, ProgressIndication, Unread}
 use Rattle.recorder.specs.declared.exchanges.Seen.{Seen}
 use Rattle.recorder.specs.declared.rules.Verdict.{Verdict}
 use Rattle.recorder.specs.declared.rules.Verdict.the-variants as D
 use Rattle.recorder.specs.Replies.{ofInformation}
 use Rattle.recorder.specs.Answers.{Why, because, drive-failed, Ruling, issue, done, stop}
-use Rattle.recorder.specs.Script.{trackIn, stepwise, Block, script, ordered, closings}
-use Rattle.recorder.specs.Exchanges.{Exchange, read, recorded, closed, seen}
+use Rattle.recorder.specs.Script.{trackIn, polls, isPolled, stepwise, Block, script, ordered, closings}
+use Rattle.recorder.specs.Exchanges.{Exchange, read, recorded, closed, polling, seen}
 
 -- ---- judgements
 
@@ -52,6 +52,7 @@ tested (t ∷ ts) = if (t .applies) (refused (because (t .number))) (tested ts)
 abbrev pub judgementIn : Verdict → Judgement
 judgementIn D.Again = again
 judgementIn D.Onward = onward []
+judgementIn D.Poll = onward polls
 judgementIn (D.Refused r) = refused (because (numberOf r))
 judgementIn (D.Failed s) = refused (drive-failed s)
 
@@ -120,19 +121,31 @@ trackTests o t v i = if (eqb t 1) (openingTests o t v i) (laterTests o t v i)
 
 -- ---- any reply to an operation, by what was seen before
 
--- what it leads to where no test is due: "Busy: the same command again. Failed otherwise: the end, 12 with its triple." 4 "stops at once"
-abbrev pub untested : Reading → Judgement
-untested Busy = again
-untested (Failed s) = refused (drive-failed s)
-untested Malformed = refused (because 4)
-untested (Profile p) = onward []
-untested (Status q) = onward []
-untested (Information i) = onward []
-untested Unread = onward []
+-- with a round of polls in front, or without
+abbrev pub pollsIf : Bool → Judgement
+pollsIf due = onward (if due polls [])
+
+-- "until 00h succeeds and the 03h after it reports progress 0"
+abbrev pub isLast : Bool → ℕ → Bool
+isLast ready n = ready && eqb n 0
+
+-- what it leads to where no test is due, by whether its operation is polled and whether the drive was ready: "Busy: the same command again.
+-- Failed otherwise: the end, 12 with its triple." 4 "stops at once". "After each such good reply the recorder sends 00h and then 03h";
+-- where the 00h fails, not ready, "the 03h follows all the same"
+abbrev pub untested : Bool → Bool → Reading → Judgement
+untested polled ready Busy = again
+untested polled ready NotReady = onward []
+untested polled ready (Failed s) = refused (drive-failed s)
+untested polled ready Malformed = refused (because 4)
+untested polled ready (Profile p) = onward []
+untested polled ready (Status q) = onward []
+untested polled ready (Information i) = onward []
+untested polled ready (ProgressIndication n) = pollsIf (not (isLast ready n))
+untested polled ready Unread = pollsIf polled
 
 -- track information is tested
 abbrev pub judge : Order → Seen → Op → Reading → Judgement
-judge o v x r = ofInformation (untested r) (λ i. tested (trackTests o (trackIn x) v i)) r
+judge o v x r = ofInformation (untested (isPolled (o .immed) x) (v .ready) r) (λ i. tested (trackTests o (trackIn x) v i)) r
 
 -- an exchange, given those before it
 abbrev pub judged : Order → List Exchange → Exchange → Judgement
@@ -213,7 +226,7 @@ abbrev pub orderedIn : Outcome Order → List Block
 orderedIn (pass o) = ordered o
 orderedIn (refuse n) = []
 
--- "all are recorded and closed"; "a job whose order 1 to 3 refuse is never closed"
+-- "all are recorded and closed", and "closed takes in the end of each polling"; "a job whose order 1 to 3 refuse is never closed"
 abbrev pub AllClosed : Outcome Order → List Exchange → Type 0
-AllClosed (pass o) es = (recorded es ≡ ordered o) × (closed es ≡ closings o)
+AllClosed (pass o) es = (recorded es ≡ ordered o) × ((closed es ≡ closings o) × (polling (o .immed) es ≡ false))
 AllClosed (refuse n) es = ⊥

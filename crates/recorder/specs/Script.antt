@@ -1,5 +1,5 @@
 -- The plan of a job: its operations if all replies are good, from the order alone and before their addresses are known.
-use mathlib.Core.Bool.{Bool, true, false, _||_}
+use mathlib.Core.Bool.{Bool, true, false, _&&_, _||_}
 use mathlib.Core.List.{List, [], _∷_, _++_}
 use Prim.Native.Nat.{ℕ, zero, suc, _+_, _-_, _*_, _/_, min}
 use lib.Dec.{eqb}
@@ -12,7 +12,7 @@ use Rattle.mmc.specs.declared.order.Track.{Track}
 use Rattle.mmc.specs.declared.order.Method.{Method}
 use Rattle.mmc.specs.declared.order.Method.the-variants.{Tao, Sao}
 use Rattle.recorder.specs.declared.script.Op.{Op}
-use Rattle.recorder.specs.declared.script.Op.the-variants.{GetConfiguration, ReadDiscInformation, ReadTrackInformation, ModeSelect, SendCueSheet, Write, SynchronizeCache, CloseTrack, CloseSession}
+use Rattle.recorder.specs.declared.script.Op.the-variants.{GetConfiguration, ReadDiscInformation, ReadTrackInformation, ModeSelect, SendCueSheet, Write, SynchronizeCache, CloseTrack, CloseSession, TestUnitReady, RequestSense}
 
 -- ---- an operation: a command without its address
 
@@ -27,6 +27,8 @@ code (Write t f k) = 0x2A
 code (SynchronizeCache t) = 0x35
 code (CloseTrack t) = 0x5B
 code CloseSession = 0x5B
+code TestUnitReady = 0x00
+code RequestSense = 0x03
 
 -- its track: 0 for the pause, and where it has none
 abbrev pub trackIn : Op → ℕ
@@ -39,6 +41,8 @@ trackIn (Write t f k) = t .0
 trackIn (SynchronizeCache t) = t .0
 trackIn (CloseTrack t) = t .0
 trackIn CloseSession = 0
+trackIn TestUnitReady = 0
+trackIn RequestSense = 0
 
 -- what belongs to a WRITE of a track, first block and count, and to no other operation
 abbrev pub ofWrite : {B : Type 0} → B → (ℕ → ℕ → ℕ → B) → Op → B
@@ -51,6 +55,8 @@ ofWrite z g (Write t f k) = g (t .0) (f .0) (k .0)
 ofWrite z g (SynchronizeCache t) = z
 ofWrite z g (CloseTrack t) = z
 ofWrite z g CloseSession = z
+ofWrite z g TestUnitReady = z
+ofWrite z g RequestSense = z
 
 -- how many blocks it puts, in the pause too
 abbrev pub countIn : Op → ℕ
@@ -59,6 +65,21 @@ countIn x = ofWrite 0 (λ t f k. k) x
 -- "every 35h and 5Bh"
 abbrev pub isClosing : Op → Bool
 isClosing x = eqb (code x) 0x35 || eqb (code x) 0x5B
+
+-- 00h asks whether the drive is ready
+abbrev pub asksReady : Op → Bool
+asksReady x = eqb (code x) 0x00
+
+-- the polls: "00h and then 03h"
+abbrev pub isPoll : Op → Bool
+isPoll x = eqb (code x) 0x00 || eqb (code x) 0x03
+
+abbrev pub polls : List Op
+polls = TestUnitReady ∷ RequestSense ∷ []
+
+-- "With flag bit 2, Immed is set in 35h .. and 5Bh": these are polled
+abbrev pub isPolled : Bool → Op → Bool
+isPolled immed x = immed && isClosing x
 
 -- each element's part, one after another
 abbrev pub gather : {A B : Type 0} → (A → List B) → List A → List B

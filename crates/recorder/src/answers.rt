@@ -10,8 +10,10 @@ use mmc::commands::get_configuration;
 use mmc::commands::mode_select;
 use mmc::commands::read_disc_information;
 use mmc::commands::read_track_information;
+use mmc::commands::request_sense;
 use mmc::commands::send_cue_sheet;
 use mmc::commands::synchronize_cache;
+use mmc::commands::test_unit_ready;
 use mmc::commands::write;
 use mmc::refusals::Made;
 use mmc::refusals::Refusal;
@@ -38,9 +40,9 @@ pub struct Cdb {
     pub length: usize,
 }
 
-// Makes the bytes of a command of a job of so many tracks.
-fn make_command(tracks: u8, c: Command, out: &mut [u8]) -> Made
-    ensures { λ r. ⌜ Fills (madeFor tracks c) r (now (out .entry)) (now (out .exit)) ⌝ }
+// Makes the bytes of a command of a job of so many tracks, with Immed or without.
+fn make_command(immed: bool, tracks: u8, c: Command, out: &mut [u8]) -> Made
+    ensures { λ r. ⌜ Fills (madeFor immed tracks c) r (now (out .entry)) (now (out .exit)) ⌝ }
 {
     let op = c.op;
     let address = c.address;
@@ -55,9 +57,11 @@ fn make_command(tracks: u8, c: Command, out: &mut [u8]) -> Made
             first: _,
             count,
         } => write(address, count, out),
-        Op::SynchronizeCache(_) => synchronize_cache(out),
-        Op::CloseTrack(_) => close_track_session(1, TrackNumber(0xFF), out),
-        Op::CloseSession => close_track_session(2, TrackNumber(0), out),
+        Op::SynchronizeCache(_) => synchronize_cache(immed, out),
+        Op::CloseTrack(_) => close_track_session(immed, 1, TrackNumber(0xFF), out),
+        Op::CloseSession => close_track_session(immed, 2, TrackNumber(0), out),
+        Op::TestUnitReady => test_unit_ready(out),
+        Op::RequestSense => request_sense(out),
     }
 }
 
@@ -71,12 +75,12 @@ pub(crate) fn no_cdb() -> Cdb
     }
 }
 
-// The bytes of a command of a job of so many tracks.
-pub(crate) fn cdb_of(tracks: u8, c: Command) -> Cdb
-    ensures { λ r. ⌜ r ≡ cdbOf (valueOr [] (madeFor tracks c)) ⌝ }
+// The bytes of a command of a job of so many tracks, with Immed or without.
+pub(crate) fn cdb_of(immed: bool, tracks: u8, c: Command) -> Cdb
+    ensures { λ r. ⌜ r ≡ cdbOf (valueOr [] (madeFor immed tracks c)) ⌝ }
 {
     let mut bytes = [0u8; 12];
-    let made = make_command(tracks, c, &mut bytes);
+    let made = make_command(immed, tracks, c, &mut bytes);
     match made {
         Made::Bytes(n) => Cdb {
             bytes: bytes,

@@ -3,20 +3,25 @@ ghost use mathlib.Core.Path.{_≡_};
 ghost use Prim.Native.Nat.{_<_, _^_};
 ghost use Rattle.mmc.specs.Times.{framesTo};
 ghost use Rattle.recorder.specs.Replies.{Unsigned, UnsignedIn};
-ghost use Rattle.recorder.specs.Exchanges.{startAt, past, see};
+ghost use Rattle.recorder.specs.Exchanges.{startAt, past, progressPast, unreadySeen, see};
 use crate::replies::Reading;
 use crate::replies::TrackInformation;
 use crate::script::Op;
+use crate::script::asks_ready;
+use crate::script::is_closing;
 use mmc::order::Method;
 use mmc::units::BlockAddress;
 use mmc::units::FrameCount;
 
 // What the rules look at in the replies so far: the profile, the disc status, and the frames to where the next block goes (address
-// plus 150): the address of the latest READ TRACK INFORMATION in a track at once, or the end of the last WRITE.
+// plus 150): the address of the latest READ TRACK INFORMATION in a track at once, or the end of the last WRITE; whether TEST UNIT READY was
+// answered good and nothing but busy since. Beside these the latest progress of a polling, which the panel shows.
 pub struct Seen {
     pub profile: u16,
     pub status: u8,
     pub at: FrameCount,
+    pub ready: bool,
+    pub progress: u16,
 }
 
 // The frames to a Next Writable Address.
@@ -59,6 +64,29 @@ fn past_op(op: Op, at: FrameCount) -> FrameCount
         Op::SynchronizeCache(_) => at,
         Op::CloseTrack(_) => at,
         Op::CloseSession => at,
+        Op::TestUnitReady => at,
+        Op::RequestSense => at,
+    }
+}
+
+// The latest progress after an operation: a closing begins anew.
+fn progress_past(op: Op, progress: u16) -> u16
+    ensures { λ r. ⌜ r ≡ progressPast op progress ⌝ }
+{
+    if is_closing(op) { 0 } else { progress }
+}
+
+// The same, but for the answer to TEST UNIT READY.
+fn unready(v: Seen) -> Seen
+    ensures { λ r. ⌜ r ≡ unreadySeen v ⌝ }
+{
+    let at = v.at;
+    Seen {
+        profile: v.profile,
+        status: v.status,
+        at: at,
+        ready: false,
+        progress: v.progress,
     }
 }
 
@@ -71,27 +99,43 @@ pub(crate) fn see_reply(m: Method, op: Op, v: Seen, reading: Reading) -> Seen
     let at = v.at;
     match reading {
         Reading::Busy => v,
-        Reading::Failed(_) => v,
-        Reading::Malformed => v,
+        Reading::NotReady => unready(v),
+        Reading::Failed(_) => unready(v),
+        Reading::Malformed => unready(v),
         Reading::Profile(p) => Seen {
             profile: p,
             status: v.status,
             at: at,
+            ready: false,
+            progress: v.progress,
         },
         Reading::Status(q) => Seen {
             profile: v.profile,
             status: q,
             at: at,
+            ready: false,
+            progress: v.progress,
         },
         Reading::Information(i) => Seen {
             profile: v.profile,
             status: v.status,
             at: start_at(m, at, i),
+            ready: false,
+            progress: v.progress,
+        },
+        Reading::ProgressIndication(n) => Seen {
+            profile: v.profile,
+            status: v.status,
+            at: at,
+            ready: false,
+            progress: n,
         },
         Reading::Unread => Seen {
             profile: v.profile,
             status: v.status,
             at: past_op(op, at),
+            ready: asks_ready(op),
+            progress: progress_past(op, v.progress),
         },
     }
 }

@@ -4,8 +4,8 @@ ghost use mathlib.Core.Bool.{_&&_};
 ghost use mathlib.Core.List.{[]};
 ghost use Rattle.recorder.specs.Answers.{issue, said, cdbOf};
 ghost use Rattle.recorder.specs.declared.job.Phase.the-variants.{Going};
-ghost use Rattle.recorder.specs.History.{Takes, Gives};
-ghost use Rattle.recorder.specs.Job.{inOrder, inTime, inPiece, isWrite, standsAt, standsIn, endedAt, validOf, Ready, commandOf, turnIn, advanced, turnOf, oneMore, stateOf, nextIn, nextOf, stepOf};
+ghost use Rattle.recorder.specs.History.{Takes, Gives, Rests};
+ghost use Rattle.recorder.specs.Job.{dueAt, inOrder, inTime, inPiece, isWrite, standsAt, standsIn, standsPolled, restsAt, validOf, Ready, commandOf, turnIn, advanced, onwardBy, turnOf, oneMore, stateOf, nextIn, nextOf, stepOf, opening};
 use crate::answers::Answer;
 use crate::answers::Cdb;
 use crate::answers::Command;
@@ -22,32 +22,46 @@ use crate::replies::read_reply;
 use crate::rules::Verdict;
 use crate::rules::judge_reply;
 use crate::script::Op;
+use crate::script::is_closing;
 use crate::script::is_stepwise;
 use crate::script::portion_of;
 use crate::script::track_of;
 use mmc::order::Method;
 use mmc::order::Order;
+use mmc::order::no_order;
 use mmc::order_block::read_order;
 use mmc::refusals::Check;
 use mmc::refusals::Refusal;
+use mmc::refusals::number;
 use mmc::times::address_at;
 use mmc::units::FrameCount;
 
-// Whether a job goes on, or how it ended.
+// Whether no order was taken yet, a job goes on, or how it ended: as done, with a number of document 01, or with 12 and the triple.
 pub enum Phase {
+    Idle,
     Going,
     Finished,
-    Stopped,
+    Stopped(u8),
+    Failed(Sense),
 }
 
-// Where the job stands: the operation whose reply is awaited, and what was seen in the replies so far.
+// Whether the operation at the place is polled, and then which poll is under way: TEST UNIT READY or REQUEST SENSE.
+pub enum Poll {
+    Off,
+    Ready,
+    Sense,
+}
+
+// Where the job stands: the operation of the script whose reply or whose polling's end is awaited, its polling, and what was seen in the
+// replies so far.
 pub struct Progress {
     pub place: Op,
+    pub poll: Poll,
     pub seen: Seen,
 }
 
 // The recorder's state: the order, where the job stands, whether it goes on, and how many commands were given since the order was
-// taken.
+// taken. A recorder that has taken none is idle.
 pub struct Recorder {
     pub order: Order,
     pub progress: Progress,
@@ -69,6 +83,17 @@ enum Move {
     Finish,
     Halt(Refusal),
     Fail(Sense),
+}
+
+// The operation whose reply is awaited: that of the place, or a poll.
+fn due_at(place: Op, poll: Poll) -> Op
+    ensures { λ r. ⌜ r ≡ dueAt place poll ⌝ }
+{
+    match poll {
+        Poll::Off => place,
+        Poll::Ready => Op::TestUnitReady,
+        Poll::Sense => Op::RequestSense,
+    }
 }
 
 // Whether a track is one of so many.
@@ -150,6 +175,8 @@ fn stands_at(m: Method, tracks: u8, length: u32, next: u32, place: Op, at: Frame
         Op::SynchronizeCache(_) => begun,
         Op::CloseTrack(_) => closed,
         Op::CloseSession => stepwise,
+        Op::TestUnitReady => false,
+        Op::RequestSense => false,
     }
 }
 
@@ -166,14 +193,28 @@ fn stands_in(m: Method, tracks: u8, length: u32, next: u32, place: Op, at: Frame
     stands_at(m, tracks, length, next, place, at)
 }
 
-// Whether a job has ended.
-fn is_ended(p: Phase) -> bool
-    ensures { λ r. ⌜ r ≡ endedAt p ⌝ }
+// Whether an operation can be polled where it is: with Immed one that closes.
+fn stands_polled(immed: bool, place: Op, poll: Poll) -> bool
+    ensures { λ r. ⌜ r ≡ standsPolled immed place poll ⌝ }
+{
+    let polled = both(immed, is_closing(place));
+    match poll {
+        Poll::Off => true,
+        Poll::Ready => polled,
+        Poll::Sense => polled,
+    }
+}
+
+// Whether no reply is awaited: before an order, and after the end of a job.
+fn rests_at(p: Phase) -> bool
+    ensures { λ r. ⌜ r ≡ restsAt p ⌝ }
 {
     match p {
+        Phase::Idle => true,
         Phase::Going => false,
         Phase::Finished => true,
-        Phase::Stopped => true,
+        Phase::Stopped(_) => true,
+        Phase::Failed(_) => true,
     }
 }
 
@@ -182,10 +223,11 @@ fn command_of(s: Progress) -> Command
     ensures { λ r. ⌜ r ≡ commandOf s ⌝ }
 {
     let place = s.place;
+    let poll = s.poll;
     let seen = s.seen;
     let at = seen.at;
     Command {
-        op: place,
+        op: due_at(place, poll),
         address: address_at(at),
     }
 }
@@ -195,8 +237,27 @@ fn advance(next: Following, v: Seen) -> Move
     ensures { λ r. ⌜ turnIn r ≡ advanced next v ⌝ }
 {
     match next {
-        Following::Next(op) => Move::Onward(Progress { place: op, seen: v }),
+        Following::Next(op) => Move::Onward(Progress {
+            place: op,
+            poll: Poll::Off,
+            seen: v,
+        }),
         Following::Nothing => Move::Finish,
+    }
+}
+
+// Goes on from an operation of the script or its polls: after TEST UNIT READY comes REQUEST SENSE, else what comes after the operation.
+fn onward_by(poll: Poll, place: Op, next: Following, v: Seen) -> Move
+    ensures { λ r. ⌜ turnIn r ≡ onwardBy poll place next v ⌝ }
+{
+    match poll {
+        Poll::Off => advance(next, v),
+        Poll::Ready => Move::Onward(Progress {
+            place: place,
+            poll: Poll::Sense,
+            seen: v,
+        }),
+        Poll::Sense => advance(next, v),
     }
 }
 
@@ -212,7 +273,7 @@ fn issued(o: Order, s: Progress, count: u64) -> Step
     ensures { λ r. ⌜ nextIn r ≡ nextOf (stateOf o s Going count) (issue (commandOf s)) ⌝ }
 {
     let command = command_of(s);
-    let cdb = cdb_of(o.count, command);
+    let cdb = cdb_of(o.immed, o.count, command);
     Step {
         state: Recorder {
             order: o,
@@ -261,8 +322,8 @@ fn stepped(o: Order, s: Progress, count: u64, m: Move) -> Step
     match m {
         Move::Onward(t) => issued(o, t, counted_up(count)),
         Move::Finish => ended(o, s, Phase::Finished, count, Answer::Done),
-        Move::Halt(r) => ended(o, s, Phase::Stopped, count, Answer::Stop(r)),
-        Move::Fail(x) => ended(o, s, Phase::Stopped, count, Answer::DriveFailed(x)),
+        Move::Halt(r) => ended(o, s, Phase::Stopped(number(r)), count, Answer::Stop(r)),
+        Move::Fail(x) => ended(o, s, Phase::Failed(x), count, Answer::DriveFailed(x)),
     }
 }
 
@@ -273,16 +334,56 @@ fn turn(o: Order, s: Progress, length: u32, next: u32, reading: Reading) -> Move
 {
     let m = o.method;
     let place = s.place;
+    let poll = s.poll;
     let v = s.seen;
-    let verdict = judge_reply(o, place, v, reading);
+    let op = due_at(place, poll);
+    let verdict = judge_reply(o, op, v, reading);
     match verdict {
         Verdict::Again => Move::Onward(s),
-        Verdict::Onward => advance(
+        Verdict::Onward => onward_by(
+            poll,
+            place,
             op_after(m, o.count, length, next, place),
-            see_reply(m, place, v, reading),
+            see_reply(m, op, v, reading),
         ),
+        Verdict::Poll => Move::Onward(Progress {
+            place: place,
+            poll: Poll::Ready,
+            seen: see_reply(m, op, v, reading),
+        }),
         Verdict::Refused(r) => Move::Halt(r),
         Verdict::Failed(x) => Move::Fail(x),
+    }
+}
+
+// Where a job begins.
+fn opening_at() -> Progress
+    ensures { λ r. ⌜ r ≡ opening ⌝ }
+{
+    Progress {
+        place: Op::GetConfiguration,
+        poll: Poll::Off,
+        seen: Seen {
+            profile: 0,
+            status: 0,
+            at: FrameCount(0),
+            ready: false,
+            progress: 0,
+        },
+    }
+}
+
+// A recorder that has taken no order: a reply to it is 13 and leaves it idle.
+pub fn idle() -> Recorder
+    ensures { λ r. ⌜ Rests r ⌝ }
+{
+    let first = opening_at();
+    let order = no_order();
+    Recorder {
+        order: order,
+        progress: first,
+        phase: Phase::Idle,
+        count: 0,
     }
 }
 
@@ -290,14 +391,7 @@ fn turn(o: Order, s: Progress, length: u32, next: u32, reading: Reading) -> Move
 pub fn take(block: &[u8]) -> Step
     ensures { λ s. ⌜ Takes (now (block .entry)) s ⌝ }
 {
-    let first = Progress {
-        place: Op::GetConfiguration,
-        seen: Seen {
-            profile: 0,
-            status: 0,
-            at: FrameCount(0),
-        },
-    };
+    let first = opening_at();
     let read = read_order(block);
     let check = read.check;
     let order = read.order;
@@ -308,53 +402,54 @@ pub fn take(block: &[u8]) -> Step
 }
 
 impl Recorder {
-    // The recorder's own test: an ended job passes, another where it can stand where it does.
+    // The recorder's own test: one that awaits no reply passes, another where it can stand where it does.
     pub fn is_valid(self) -> bool
         ensures { λ r. ⌜ r ≡ validOf self ⌝ }
     {
         let phase = self.phase;
-        if is_ended(phase) {
+        if rests_at(phase) {
             return true;
         }
         let o = self.order;
         let s = self.progress;
         let m = o.method;
         let place = s.place;
+        let poll = s.poll;
         let v = s.seen;
         let at = v.at;
         let track = track_of(place) as u32;
-        stands_in(
-            m,
-            o.count,
-            piece_length(o, track),
-            piece_length(o, track + 1),
-            place,
-            at,
+        let length = piece_length(o, track);
+        let next = piece_length(o, track + 1);
+        both(
+            stands_polled(o.immed, place, poll),
+            stands_in(m, o.count, length, next, place, at),
         )
     }
 
-    // A reply to the latest command goes in: 3 for a state that fails the test, 13 for a job that has ended, both with the
-    // state as it was; else the next state comes out with a command or an end.
+    // A reply to the latest command goes in: 3 for a state that fails the test, 13 for a job that has ended or an idle recorder, both
+    // with the state as it was; else the next state comes out with a command or an end.
     pub fn give(self, good: bool, bytes: &[u8]) -> Step
         ensures { λ s. ⌜ Gives self good (now (bytes .entry)) s ⌝ }
     {
         let phase = self.phase;
-        if is_ended(phase) {
+        if rests_at(phase) {
             return answered(self, Answer::Stop(Refusal::JobEnded));
         }
         let o = self.order;
         let s = self.progress;
         let m = o.method;
         let place = s.place;
+        let poll = s.poll;
         let v = s.seen;
         let at = v.at;
         let track = track_of(place) as u32;
         let length = piece_length(o, track);
         let next = piece_length(o, track + 1);
-        if !stands_in(m, o.count, length, next, place, at) {
+        let polled = stands_polled(o.immed, place, poll);
+        if !both(polled, stands_in(m, o.count, length, next, place, at)) {
             return answered(self, Answer::Stop(Refusal::FieldValue));
         }
-        let reading = read_reply(place, good, bytes);
+        let reading = read_reply(due_at(place, poll), good, bytes);
         stepped(o, s, self.count, turn(o, s, length, next, reading))
     }
 }

@@ -3,8 +3,9 @@ ghost use mathlib.Core.Path.{_≡_};
 ghost use Prim.Native.Nat.{_≤_};
 ghost use lib.ListN.{length};
 ghost use Rattle.mmc.specs.ReplyBlock.{replyOf};
-ghost use Rattle.recorder.specs.Replies.{hasSense, senseOf, notReady, readFailed, readProfile, readStatus, informationOf, readInformation, readGood, reading};
+ghost use Rattle.recorder.specs.Replies.{hasSense, senseOf, notReady, longWrite, readFailed, readUnready, readProfile, readStatus, informationOf, readInformation, progressOf, readProgress, readGood, failedBy, reading};
 use crate::script::Op;
+use crate::script::asks_ready;
 use mmc::bytes::byte_at;
 use mmc::bytes::number16;
 use mmc::bytes::number32;
@@ -26,15 +27,17 @@ pub struct TrackInformation {
     pub free: BlockCount,
 }
 
-// What a reply says: of a failed one, that the drive is busy and took nothing, or that it failed; of a good one, that it is too short or
-// of another type, the fields that are named for its command, or nothing that is read.
+// What a reply says: of a failed one, that the drive is busy and took nothing, that it is not ready yet (of TEST UNIT READY), or that it
+// failed; of a good one, that it is too short or of another type, the fields that are named for its command, or nothing that is read.
 pub enum Reading {
     Busy,
+    NotReady,
     Failed(Sense),
     Malformed,
     Profile(u16),
     Status(u8),
     Information(TrackInformation),
+    ProgressIndication(u16),
     Unread,
 }
 
@@ -71,9 +74,16 @@ fn sense_of(bytes: &[u8]) -> Sense
     }
 }
 
-// 02h/04h/08h: logical unit not ready, long write in progress.
+// 02h/04h: logical unit not ready.
 fn not_ready(s: Sense) -> bool
     ensures { λ r. ⌜ r ≡ notReady s ⌝ }
+{
+    s.key == 0x02 && s.asc == 0x04
+}
+
+// 02h/04h/08h: logical unit not ready, long write in progress.
+fn long_write(s: Sense) -> bool
+    ensures { λ r. ⌜ r ≡ longWrite s ⌝ }
 {
     s.key == 0x02 && (s.asc == 0x04 && s.ascq == 0x08)
 }
@@ -87,8 +97,24 @@ fn read_failed(bytes: &[u8]) -> Reading
     if code != 0x70 {
         return Reading::Failed(sense);
     }
-    if not_ready(sense) {
+    if long_write(sense) {
         Reading::Busy
+    } else {
+        Reading::Failed(sense)
+    }
+}
+
+// Reads a failed reply to TEST UNIT READY, which is never busy: not ready yet, or the triple.
+fn read_unready(bytes: &[u8]) -> Reading
+    ensures { λ r. ⌜ r ≡ readUnready (now (bytes .entry)) ⌝ }
+{
+    let sense = sense_of(bytes);
+    let code = byte_at(bytes, 0) % 128;
+    if code != 0x70 {
+        return Reading::Failed(sense);
+    }
+    if not_ready(sense) {
+        Reading::NotReady
     } else {
         Reading::Failed(sense)
     }
@@ -154,6 +180,28 @@ fn read_information(bytes: &[u8]) -> Reading
     Reading::Information(information_of(bytes))
 }
 
+// The progress indication of a whole reply to REQUEST SENSE, 0 where it has none.
+fn progress_of(bytes: &[u8]) -> u16
+    requires { ⌜ 18 ≤ length (now bytes) ⌝ }
+    ensures { λ r. ⌜ r ≡ progressOf (now (bytes .entry)) ⌝ }
+{
+    if byte_at(bytes, 15) / 128 % 2 == 1 {
+        number16(&bytes[16..]) as u16
+    } else {
+        0
+    }
+}
+
+// Reads a good reply to REQUEST SENSE: how far the drive is.
+fn read_progress(bytes: &[u8]) -> Reading
+    ensures { λ r. ⌜ r ≡ readProgress (now (bytes .entry)) ⌝ }
+{
+    if bytes.len() < 18 {
+        return Reading::Malformed;
+    }
+    Reading::ProgressIndication(progress_of(bytes))
+}
+
 // Reads a good reply, by its command. A command without data has nothing that is read.
 fn read_good(op: Op, bytes: &[u8]) -> Reading
     ensures { λ r. ⌜ r ≡ readGood op (now (bytes .entry)) ⌝ }
@@ -172,6 +220,19 @@ fn read_good(op: Op, bytes: &[u8]) -> Reading
         Op::SynchronizeCache(_) => Reading::Unread,
         Op::CloseTrack(_) => Reading::Unread,
         Op::CloseSession => Reading::Unread,
+        Op::TestUnitReady => Reading::Unread,
+        Op::RequestSense => read_progress(bytes),
+    }
+}
+
+// Reads a failed reply, by its command.
+fn failed_by(op: Op, bytes: &[u8]) -> Reading
+    ensures { λ r. ⌜ r ≡ failedBy op (now (bytes .entry)) ⌝ }
+{
+    if asks_ready(op) {
+        read_unready(bytes)
+    } else {
+        read_failed(bytes)
     }
 }
 
@@ -182,6 +243,6 @@ pub(crate) fn read_reply(op: Op, good: bool, bytes: &[u8]) -> Reading
     if good {
         read_good(op, bytes)
     } else {
-        read_failed(bytes)
+        failed_by(op, bytes)
     }
 }

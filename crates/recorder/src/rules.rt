@@ -4,14 +4,15 @@ ghost use mathlib.Core.List.{[], _∷_};
 ghost use Prim.Native.Nat.{_≤_, _<_, _^_};
 ghost use Rattle.mmc.specs.Times.{framesTo};
 ghost use Rattle.recorder.specs.Replies.{Unsigned, UnsignedIn, ForTrack};
-ghost use Rattle.recorder.specs.Script.{trackIn};
-ghost use Rattle.recorder.specs.Rules.{otherProfile, unsuitable, unusable, mixedOrKept, fits, test, tested, trackTests, judgementIn, untested, judge};
+ghost use Rattle.recorder.specs.Script.{trackIn, isPolled};
+ghost use Rattle.recorder.specs.Rules.{otherProfile, unsuitable, unusable, mixedOrKept, fits, test, tested, trackTests, pollsIf, isLast, judgementIn, untested, judge};
 use crate::exchanges::Seen;
 use crate::exchanges::frames_to;
 use crate::replies::Reading;
 use crate::replies::Sense;
 use crate::replies::TrackInformation;
 use crate::script::Op;
+use crate::script::is_closing;
 use crate::script::is_stepwise;
 use crate::script::track_of;
 use mmc::order::Method;
@@ -23,10 +24,11 @@ use mmc::refusals::Refusal;
 use mmc::units::BlockSum;
 use mmc::units::FrameCount;
 
-// How a reply is judged: the same command again, onward, or a stop.
+// How a reply is judged: the same command again, onward, onward with a round of polls first, or a stop.
 pub(crate) enum Verdict {
     Again,
     Onward,
+    Poll,
     Refused(Refusal),
     Failed(Sense),
 }
@@ -159,18 +161,47 @@ fn judge_track(o: Order, track: u16, v: Seen, i: TrackInformation) -> Verdict
     first_of(profile, status, unusable, order, short, full)
 }
 
-// What a reply leads to where no test is due.
-fn verdict_of(reading: Reading) -> Verdict
-    ensures { λ r. ⌜ judgementIn r ≡ untested reading ⌝ }
+// Whether an operation is polled: one that closes, with Immed.
+fn is_polled(immed: bool, op: Op) -> bool
+    ensures { λ r. ⌜ r ≡ isPolled immed op ⌝ }
+{
+    if immed {
+        return is_closing(op);
+    }
+    false
+}
+
+// Onward, with a round of polls first or without.
+fn polls_if(due: bool) -> Verdict
+    ensures { λ r. ⌜ judgementIn r ≡ pollsIf due ⌝ }
+{
+    if due { Verdict::Poll } else { Verdict::Onward }
+}
+
+// Whether a round of polls was the last: the drive was ready and reports no progress.
+fn is_last(ready: bool, progress: u16) -> bool
+    ensures { λ r. ⌜ r ≡ isLast ready progress ⌝ }
+{
+    if ready {
+        return progress == 0;
+    }
+    false
+}
+
+// What a reply leads to where no test is due, by whether its operation is polled and whether the drive was ready.
+fn verdict_of(polled: bool, ready: bool, reading: Reading) -> Verdict
+    ensures { λ r. ⌜ judgementIn r ≡ untested polled ready reading ⌝ }
 {
     match reading {
         Reading::Busy => Verdict::Again,
+        Reading::NotReady => Verdict::Onward,
         Reading::Failed(x) => Verdict::Failed(x),
         Reading::Malformed => Verdict::Refused(Refusal::ReplyForm),
         Reading::Profile(_) => Verdict::Onward,
         Reading::Status(_) => Verdict::Onward,
         Reading::Information(_) => Verdict::Onward,
-        Reading::Unread => Verdict::Onward,
+        Reading::ProgressIndication(n) => polls_if(!is_last(ready, n)),
+        Reading::Unread => polls_if(polled),
     }
 }
 
@@ -181,7 +212,7 @@ pub(crate) fn judge_reply(o: Order, op: Op, v: Seen, reading: Reading) -> Verdic
     ensures { λ r. ⌜ judgementIn r ≡ judge o v op reading ⌝ }
 {
     let Reading::Information(i) = reading else {
-        return verdict_of(reading);
+        return verdict_of(is_polled(o.immed, op), v.ready, reading);
     };
     judge_track(o, track_of(op), v, i)
 }

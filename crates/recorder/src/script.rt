@@ -1,12 +1,12 @@
 // The operations of a job.
 ghost use mathlib.Core.Path.{_≡_};
-ghost use Rattle.recorder.specs.Script.{portion, stepwise, trackIn};
+ghost use Rattle.recorder.specs.Script.{portion, stepwise, trackIn, isClosing, asksReady};
 use mmc::order::Method;
 use mmc::units::BlockCount;
 use mmc::units::TrackNumber;
 
 // A command without its address. A WRITE has its track (0: the pause), its first block there, from 0 on, and its count; MODE SELECT
-// is for a track, READ TRACK INFORMATION comes before one, SYNCHRONIZE CACHE and the closing of a track after one.
+// is for a track, READ TRACK INFORMATION comes before one, SYNCHRONIZE CACHE and the closing of a track after one. The last two poll.
 pub enum Op {
     GetConfiguration,
     ReadDiscInformation,
@@ -21,6 +21,8 @@ pub enum Op {
     SynchronizeCache(TrackNumber),
     CloseTrack(TrackNumber),
     CloseSession,
+    TestUnitReady,
+    RequestSense,
 }
 
 // The blocks of the WRITE of a piece of so many blocks from one of them on.
@@ -52,6 +54,54 @@ pub(crate) fn track_of(op: Op) -> u16
         Op::SynchronizeCache(t) => t.0,
         Op::CloseTrack(t) => t.0,
         Op::CloseSession => 0,
+        Op::TestUnitReady => 0,
+        Op::RequestSense => 0,
+    }
+}
+
+// Whether an operation closes a track or the session, or forces the cache out.
+pub(crate) fn is_closing(op: Op) -> bool
+    ensures { λ r. ⌜ r ≡ isClosing op ⌝ }
+{
+    match op {
+        Op::GetConfiguration => false,
+        Op::ReadDiscInformation => false,
+        Op::ReadTrackInformation(_) => false,
+        Op::ModeSelect(_) => false,
+        Op::SendCueSheet => false,
+        Op::Write {
+            track: _,
+            first: _,
+            count: _,
+        } => false,
+        Op::SynchronizeCache(_) => true,
+        Op::CloseTrack(_) => true,
+        Op::CloseSession => true,
+        Op::TestUnitReady => false,
+        Op::RequestSense => false,
+    }
+}
+
+// Whether an operation asks if the drive is ready.
+pub(crate) fn asks_ready(op: Op) -> bool
+    ensures { λ r. ⌜ r ≡ asksReady op ⌝ }
+{
+    match op {
+        Op::GetConfiguration => false,
+        Op::ReadDiscInformation => false,
+        Op::ReadTrackInformation(_) => false,
+        Op::ModeSelect(_) => false,
+        Op::SendCueSheet => false,
+        Op::Write {
+            track: _,
+            first: _,
+            count: _,
+        } => false,
+        Op::SynchronizeCache(_) => false,
+        Op::CloseTrack(_) => false,
+        Op::CloseSession => false,
+        Op::TestUnitReady => true,
+        Op::RequestSense => false,
     }
 }
 
