@@ -116,13 +116,14 @@ fn fields_of(b: &[u8]) -> Order
 {
     let method = method_of(b[1]);
     let flags = b[2];
+    let count = b[3];
     let tracks = tracks_of(b);
     Order {
         method: method,
         keep: flags % 2 == 1,
         protect: flags / 2 % 2 == 1,
         immed: flags / 4 % 2 == 1,
-        count: b[3],
+        count: count,
         tracks: tracks,
     }
 }
