@@ -1,4 +1,4 @@
--- "Command bytes": ten bytes each, unnamed ones 0.
+-- "Command bytes": ten bytes each, but 00h and 03h six; unnamed ones 0.
 use Prim.Native.Nat.{ℕ, suc, _-_, _/_, _%_, _^_}
 use mathlib.Core.List.{List, [], _∷_, _++_}
 use mathlib.Core.Bool.{Bool, _&&_}
@@ -51,10 +51,18 @@ writeBytes a n = 0x2A ∷ 0 ∷ bytes32 (twos (a .0)) ++ 0 ∷ bytes16 (n .0) ++
 unfoldable pub writeCommand : BlockAddress → BlockCount → Outcome (List ℕ)
 writeCommand a n = if (writeRange a n) (pass (writeBytes a n)) (refuse 15)
 
--- SYNCHRONIZE CACHE: 35h
-abbrev pub synchronizeCache : List ℕ
-synchronizeCache = 0x35 ∷ replicate 9 0
+-- SYNCHRONIZE CACHE: 35h, Immed in bit 1 of 1
+abbrev pub synchronizeCache : Bool → List ℕ
+synchronizeCache immed = 0x35 ∷ if immed 0x02 0 ∷ replicate 8 0
 
--- CLOSE TRACK SESSION: 5Bh, function 1 or 2 in 2, track (16 bits) in 4, 5
-unfoldable pub closeTrackSession : ℕ → TrackNumber → Outcome (List ℕ)
-closeTrackSession f t = if (leb 1 f && leb f 2) (pass (0x5B ∷ 0 ∷ f ∷ 0 ∷ bytes16 (t .0) ++ replicate 4 0)) (refuse 15)
+-- CLOSE TRACK SESSION: 5Bh, Immed in bit 0 of 1, function 1 or 2 in 2, track (16 bits) in 4, 5
+unfoldable pub closeTrackSession : Bool → ℕ → TrackNumber → Outcome (List ℕ)
+closeTrackSession immed f t = if (leb 1 f && leb f 2) (pass (0x5B ∷ if immed 0x01 0 ∷ f ∷ 0 ∷ bytes16 (t .0) ++ replicate 4 0)) (refuse 15)
+
+-- TEST UNIT READY: 00h, six bytes
+abbrev pub testUnitReady : List ℕ
+testUnitReady = replicate 6 0
+
+-- REQUEST SENSE: 03h, 12h in 4, six bytes
+abbrev pub requestSense : List ℕ
+requestSense = 0x03 ∷ 0 ∷ 0 ∷ 0 ∷ 0x12 ∷ 0 ∷ []

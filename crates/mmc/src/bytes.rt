@@ -2,7 +2,7 @@
 ghost use mathlib.Core.Path.{_≡_};
 ghost use Prim.Native.Nat.{_+_, _≤_};
 ghost use lib.ListN.{length, getD};
-ghost use Rattle.mmc.specs.Bytes.{be16, be32, sumOf, allZero, sameBytes, putAt};
+ghost use Rattle.mmc.specs.Bytes.{if, be16, be32, sumOf, allZero, sameBytes, putAt};
 ghost use Rattle.mmc.specs.Refusals.{pass, Fills};
 use crate::refusals::Made;
 use crate::refusals::Refusal;
@@ -26,6 +26,13 @@ pub fn number32(b: &[u8]) -> u32
     ensures { λ r. ⌜ r ≡ be32 (now (b .entry)) ⌝ }
 {
     byte_at(b, 0) * 16777216 + byte_at(b, 1) * 65536 + byte_at(b, 2) * 256 + byte_at(b, 3)
+}
+
+// A byte with the value n where a flag is set, else 0.
+pub(crate) fn flag(set: bool, n: u8) -> u8
+    ensures { λ r. ⌜ (r ≡ if set n 0) × (r ≤ n) ⌝ }
+{
+    if set { n } else { 0 }
 }
 
 // The sum of the bytes of a block.

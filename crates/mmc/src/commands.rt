@@ -1,11 +1,13 @@
-// The command descriptor blocks. Each has ten bytes; Immed is 0.
+// The command descriptor blocks: 00h and 03h have six bytes, the others ten. Immed, in 35h and 5Bh, has the
+// drive answer before its work is done.
 ghost use mathlib.Core.Path.{_≡_};
 ghost use mathlib.Core.Bool.{true};
 ghost use Prim.Native.Nat.{_≤_, _<_};
 ghost use Rattle.mmc.specs.Times.{inRange};
-ghost use Rattle.mmc.specs.Commands.{getConfiguration, readDiscInformation, readTrackInformation, modeSelect, sendCueSheet, twos, writeRange, writeBytes, writeCommand, synchronizeCache, closeTrackSession};
+ghost use Rattle.mmc.specs.Commands.{getConfiguration, readDiscInformation, readTrackInformation, modeSelect, sendCueSheet, twos, writeRange, writeBytes, writeCommand, synchronizeCache, closeTrackSession, testUnitReady, requestSense};
 ghost use Rattle.mmc.specs.Refusals.{pass, Fills};
 use crate::bytes::fill;
+use crate::bytes::flag;
 use crate::refusals::Made;
 use crate::refusals::Refusal;
 use crate::sheet::sheet_size;
@@ -111,17 +113,18 @@ pub fn write(a: BlockAddress, n: BlockCount, out: &mut [u8]) -> Made
     }
 }
 
-// 35h: forces the cache out to the disc.
-pub fn synchronize_cache(out: &mut [u8]) -> Made
-    ensures { λ r. ⌜ Fills (pass synchronizeCache) r (now (out .entry)) (now (out .exit)) ⌝ }
+// 35h: forces the cache out to the disc. Immed is bit 1 of byte 1.
+pub fn synchronize_cache(immed: bool, out: &mut [u8]) -> Made
+    ensures { λ r. ⌜ Fills (pass (synchronizeCache immed)) r (now (out .entry)) (now (out .exit)) ⌝ }
 {
-    let cdb = [0x35u8, 0, 0, 0, 0, 0, 0, 0, 0, 0];
+    let at_once = flag(immed, 0x02);
+    let cdb = [0x35u8, at_once, 0, 0, 0, 0, 0, 0, 0, 0];
     fill(&cdb, out)
 }
 
-// 5Bh: function 1 closes a track, function 2 the session.
-pub fn close_track_session(function: u8, track: TrackNumber, out: &mut [u8]) -> Made
-    ensures { λ r. ⌜ Fills (closeTrackSession function track) r (now (out .entry)) (now (out .exit)) ⌝ }
+// 5Bh: function 1 closes a track, function 2 the session. Immed is bit 0 of byte 1.
+pub fn close_track_session(immed: bool, function: u8, track: TrackNumber, out: &mut [u8]) -> Made
+    ensures { λ r. ⌜ Fills (closeTrackSession immed function track) r (now (out .entry)) (now (out .exit)) ⌝ }
 {
     if function < 1 {
         return Made::Refused(Refusal::OutOfRange);
@@ -131,6 +134,23 @@ pub fn close_track_session(function: u8, track: TrackNumber, out: &mut [u8]) -> 
     }
     let high = (track.0 / 256) as u8;
     let low = (track.0 % 256) as u8;
-    let cdb = [0x5Bu8, 0, function, 0, high, low, 0, 0, 0, 0];
+    let at_once = flag(immed, 0x01);
+    let cdb = [0x5Bu8, at_once, function, 0, high, low, 0, 0, 0, 0];
+    fill(&cdb, out)
+}
+
+// 00h: whether the drive is ready.
+pub fn test_unit_ready(out: &mut [u8]) -> Made
+    ensures { λ r. ⌜ Fills (pass testUnitReady) r (now (out .entry)) (now (out .exit)) ⌝ }
+{
+    let cdb = [0u8, 0, 0, 0, 0, 0];
+    fill(&cdb, out)
+}
+
+// 03h: why the drive is not ready, in 18 bytes of sense data.
+pub fn request_sense(out: &mut [u8]) -> Made
+    ensures { λ r. ⌜ Fills (pass requestSense) r (now (out .entry)) (now (out .exit)) ⌝ }
+{
+    let cdb = [0x03u8, 0, 0, 0, 0x12, 0];
     fill(&cdb, out)
 }

@@ -27,6 +27,7 @@ pub struct Order {
     pub method: Method,
     pub keep: bool,
     pub protect: bool,
+    pub immed: bool,
     pub count: u8,
     pub tracks: [Track; 99],
 }
@@ -48,7 +49,7 @@ pub(crate) fn no_track() -> Track
 }
 
 // What stands where there is no order.
-pub(crate) fn no_order() -> Order
+pub fn no_order() -> Order
     ensures { λ r. ⌜ r ≡ noOrder ⌝ }
 {
     let none = no_track();
@@ -57,6 +58,7 @@ pub(crate) fn no_order() -> Order
         method: Method::Tao,
         keep: false,
         protect: false,
+        immed: false,
         count: 0,
         tracks: tracks,
     }

@@ -10,6 +10,7 @@ use crate::block::check_block;
 use crate::block::put_check;
 use crate::bytes::all_zero;
 use crate::bytes::fill;
+use crate::bytes::flag;
 use crate::bytes::number32;
 use crate::bytes::put;
 use crate::order::Kind;
@@ -60,14 +61,10 @@ fn kind_byte(k: Kind) -> u8
     }
 }
 
-fn flags_byte(keep: bool, protect: bool) -> u8
-    ensures { λ r. ⌜ r ≡ flagsByte keep protect ⌝ }
+fn flags_byte(keep: bool, protect: bool, immed: bool) -> u8
+    ensures { λ r. ⌜ r ≡ flagsByte keep protect immed ⌝ }
 {
-    if keep {
-        if protect { 3 } else { 1 }
-    } else {
-        if protect { 2 } else { 0 }
-    }
+    flag(keep, 1) + flag(protect, 2) + flag(immed, 4)
 }
 
 // The track whose row stands at the index at.
@@ -119,12 +116,14 @@ fn fields_of(b: &[u8]) -> Order
 {
     let method = method_of(b[1]);
     let flags = b[2];
+    let count = b[3];
     let tracks = tracks_of(b);
     Order {
         method: method,
         keep: flags % 2 == 1,
-        protect: flags / 2 == 1,
-        count: b[3],
+        protect: flags / 2 % 2 == 1,
+        immed: flags / 4 % 2 == 1,
+        count: count,
         tracks: tracks,
     }
 }
@@ -145,7 +144,7 @@ fn head_ok(b: &[u8]) -> bool
     if 2 < method {
         return false;
     }
-    if 3 < flags {
+    if 7 < flags {
         return false;
     }
     true
@@ -234,7 +233,7 @@ fn put_body(o: Order, out: &mut [u8])
 {
     let m = o.method;
     let method = method_byte(m);
-    let flags = flags_byte(o.keep, o.protect);
+    let flags = flags_byte(o.keep, o.protect, o.immed);
     let head = [1u8, method, flags, o.count];
     put(out, 0, &head);
     put_rows(o, out);

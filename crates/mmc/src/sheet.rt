@@ -286,6 +286,7 @@ fn order_in(b: &[u8]) -> Order
         method: Method::Sao,
         keep: false,
         protect: false,
+        immed: false,
         count: n as u8,
         tracks: tracks,
     }

@@ -10,7 +10,7 @@ use lib.ListN.{length, take, drop, replicate, length-drop}
 use lib.Seq.{drop-at, take-add, length-take-le}
 use Rattle.mmc.specs.Block.{sealed, checkSum, blockFault}
 use Rattle.mmc.specs.Bytes.{bytes32, be32, allZero}
-use Rattle.mmc.specs.OrderBlock.{orderBlock, methodByte, methodOf, flagsByte, keepOf, protectOf, lastMethod, lastFlags, headOk, row, rows, orderBody, orderBytes, kindByte, kindOf, kindsOk, trackOf, tracksOf, fieldsOf, orderOk, readOrder}
+use Rattle.mmc.specs.OrderBlock.{orderBlock, methodByte, methodOf, flagsByte, keepOf, protectOf, immedOf, lastMethod, lastFlags, headOk, row, rows, orderBody, orderBytes, kindByte, kindOf, kindsOk, trackOf, tracksOf, fieldsOf, orderOk, readOrder}
 use Rattle.mmc.specs.Order.{validOrder}
 use Rattle.mmc.proofs.order_block.Rows.{body-length, rows-495}
 use Rattle.mmc.proofs.block.Laws.{sealed-ok, sealed-is, fault-length, read-listed, read-passed}
@@ -30,30 +30,33 @@ unfolding methodOf
 method-back Tao = refl
 method-back Sao = refl
 
-keep-back : (k p : Bool) → keepOf (flagsByte k p) ≡ k
-unfolding keepOf
-keep-back true true = refl
-keep-back true false = refl
-keep-back false true = refl
-keep-back false false = refl
+-- each flag of a byte that holds all three
+flags-back : (k p i : Bool) → (keepOf (flagsByte k p i) ≡ k) × (protectOf (flagsByte k p i) ≡ p) × (immedOf (flagsByte k p i) ≡ i)
+unfolding keepOf protectOf immedOf
+flags-back true true true = (refl, refl, refl)
+flags-back true true false = (refl, refl, refl)
+flags-back true false true = (refl, refl, refl)
+flags-back true false false = (refl, refl, refl)
+flags-back false true true = (refl, refl, refl)
+flags-back false true false = (refl, refl, refl)
+flags-back false false true = (refl, refl, refl)
+flags-back false false false = (refl, refl, refl)
 
-protect-back : (k p : Bool) → protectOf (flagsByte k p) ≡ p
-unfolding protectOf
-protect-back true true = refl
-protect-back true false = refl
-protect-back false true = refl
-protect-back false false = refl
+-- they are listed
+flags-small : (k p i : Bool) → leb (flagsByte k p i) lastFlags ≡ true
+flags-small true true true = refl
+flags-small true true false = refl
+flags-small true false true = refl
+flags-small true false false = refl
+flags-small false true true = refl
+flags-small false true false = refl
+flags-small false false true = refl
+flags-small false false false = refl
 
-head-back : (m : Method) (k p : Bool) (n : ℕ) (t : List ℕ) → headOk (1 ∷ methodByte m ∷ flagsByte k p ∷ n ∷ t) ≡ true
+head-back : (m : Method) (f n : ℕ) (t : List ℕ) → leb f lastFlags ≡ true → headOk (1 ∷ methodByte m ∷ f ∷ n ∷ t) ≡ true
 unfolding headOk
-head-back Tao true true n t = refl
-head-back Tao true false n t = refl
-head-back Tao false true n t = refl
-head-back Tao false false n t = refl
-head-back Sao true true n t = refl
-head-back Sao true false n t = refl
-head-back Sao false true n t = refl
-head-back Sao false false n t = refl
+head-back Tao f n t e = e
+head-back Sao f n t e = e
 
 method-is : (n : ℕ) → 1 ≤ n → n ≤ 2 → methodByte (methodOf n) ≡ n
 unfolding methodOf
@@ -62,13 +65,17 @@ method-is (suc zero) h k = refl
 method-is (suc (suc zero)) h k = refl
 method-is (suc (suc (suc n))) h k = absurd (omega arith)
 
-flags-is : (n : ℕ) → n ≤ 3 → flagsByte (keepOf n) (protectOf n) ≡ n
-unfolding keepOf protectOf
+flags-is : (n : ℕ) → n ≤ 7 → flagsByte (keepOf n) (protectOf n) (immedOf n) ≡ n
+unfolding keepOf protectOf immedOf
 flags-is zero h = refl
 flags-is (suc zero) h = refl
 flags-is (suc (suc zero)) h = refl
 flags-is (suc (suc (suc zero))) h = refl
-flags-is (suc (suc (suc (suc n)))) h = absurd (omega arith)
+flags-is (suc (suc (suc (suc zero)))) h = refl
+flags-is (suc (suc (suc (suc (suc zero))))) h = refl
+flags-is (suc (suc (suc (suc (suc (suc zero)))))) h = refl
+flags-is (suc (suc (suc (suc (suc (suc (suc zero))))))) h = refl
+flags-is (suc (suc (suc (suc (suc (suc (suc (suc n)))))))) h = absurd (omega arith)
 
 -- ---- the rows read back
 
@@ -100,16 +107,17 @@ module _ (o : Order) (z : length (o .tracks) ≡ 99) where
   tail = replicate 11 0 ++ checkSum (orderBody o) / 256 ∷ checkSum (orderBody o) % 256 ∷ []
 
   -- the block from its rows on
-  laid : orderBytes o ≡ 1 ∷ methodByte (o .method) ∷ flagsByte (o .keep) (o .protect) ∷ o .count ∷ (rows (o .tracks) ++ tail)
+  laid : orderBytes o ≡ 1 ∷ methodByte (o .method) ∷ flagsByte (o .keep) (o .protect) (o .immed) ∷ o .count ∷ (rows (o .tracks) ++ tail)
   unfolding orderBytes sealed orderBody tail
-  laid = ap (λ (t : List ℕ). 1 ∷ methodByte (o .method) ∷ flagsByte (o .keep) (o .protect) ∷ o .count ∷ t) (append-assoc (rows (o .tracks)) (replicate 11 0) (checkSum (orderBody o) / 256 ∷ checkSum (orderBody o) % 256 ∷ []))
+  laid = ap (λ (t : List ℕ). 1 ∷ methodByte (o .method) ∷ flagsByte (o .keep) (o .protect) (o .immed) ∷ o .count ∷ t) (append-assoc (rows (o .tracks)) (replicate 11 0) (checkSum (orderBody o) / 256 ∷ checkSum (orderBody o) % 256 ∷ []))
 
   fields-back : fieldsOf (orderBytes o) ≡ o
   unfolding fieldsOf
   fields-back =
       let r : List ℕ = rows (o .tracks) ++ tail in
       let e : tracksOf 99 r ≡ o .tracks = ap (λ (n : ℕ). tracksOf n r) (sym z) ∙ tracks-back (o .tracks) tail in
-      rw (laid, e, method-back (o .method), keep-back (o .keep) (o .protect), protect-back (o .keep) (o .protect))
+      let f = flags-back (o .keep) (o .protect) (o .immed) in
+      rw (laid, e, method-back (o .method), f .0, f .1, f .2)
 
   rest-zero : allZero (take 11 (drop 499 (orderBytes o))) ≡ true
   unfolding allZero tail
@@ -123,7 +131,7 @@ module _ (o : Order) (z : length (o .tracks) ≡ 99) where
   pub read-back : validOrder o ≡ true → readOrder (orderBytes o) ≡ pass o
   unfolding readOrder orderOk
   read-back v =
-      let head : headOk (orderBytes o) ≡ true = ap headOk laid ∙ head-back (o .method) (o .keep) (o .protect) (o .count) _ in
+      let head : headOk (orderBytes o) ≡ true = ap headOk laid ∙ head-back (o .method) _ (o .count) _ (flags-small (o .keep) (o .protect) (o .immed)) in
       let kinds : kindsOk 99 (drop 4 (orderBytes o)) ≡ true = rw (laid, ← z) (kinds-back (o .tracks) tail) in
       simp (head, kinds, fields-back, v, rest-zero) (read-listed (orderBytes o) true o no-fault refl)
 

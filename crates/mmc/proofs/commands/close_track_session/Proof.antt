@@ -22,6 +22,9 @@ cast-high c = search needs
 cast-low : tie.Need-cast-low
 cast-low c = search needs
 
+flag-requires : tie.Need-flag-requires
+flag-requires c κs = search needs
+
 slice-aggregate-fill : tie.Need-slice-aggregate-fill
 slice-aggregate-fill c = search needs
 
@@ -35,10 +38,11 @@ returns-3 : tie.Need-returns-3
 unfolding closeTrackSession
 returns-3 c =
     let f = c .before .before in
-    let e = f .before .before .before .before in
-    fills-of (simp (le-leb _ _ (e .before .before .if1 .left), le-leb _ _ (e .before .if2 .left))) (f .fill .ensures)
+    let w = f .before .before .before in
+    let e = w .before .before .before in
+    fills-of (simp (le-leb _ _ (e .before .if1 .left), le-leb _ _ (e .if2 .left), w .flag .ensures .0)) (f .fill .ensures)
 
 pub close-track-session-spec : {M : Type 1} → statement M
 close-track-session-spec =
     tie.close
-    (tie.spec returns returns-2 cast-high cast-low slice-aggregate-fill fill-requires same-length returns-3)
+    (tie.spec returns returns-2 cast-high cast-low flag-requires slice-aggregate-fill fill-requires same-length returns-3)

@@ -1,5 +1,5 @@
 use borrow.Author.Needs.{needs}
-use Rattle.mmc.specs.OrderBlock.{fieldsOf, keepOf, protectOf}
+use Rattle.mmc.specs.OrderBlock.{fieldsOf, keepOf, protectOf, immedOf}
 use Rattle.mmc.proofs.order_block.fields_of.Statement.{statement}
 use Rattle.mmc.proofs.order_block.fields_of.Tie as tie
 
@@ -12,15 +12,15 @@ method-of-requires c κs = search needs
 shared-slice-read-flags : tie.Need-shared-slice-read-flags
 shared-slice-read-flags c = search needs
 
+shared-slice-read-count : tie.Need-shared-slice-read-count
+shared-slice-read-count c = search needs
+
 tracks-of-requires : tie.Need-tracks-of-requires
 tracks-of-requires c κs = search needs
 
-shared-slice-read-t12 : tie.Need-shared-slice-read-t12
-shared-slice-read-t12 c = search needs
-
 returns : tie.Need-returns
-unfolding fieldsOf keepOf protectOf
-returns c = simp (c .before .before .before .method-of .ensures, c .before .tracks-of .ensures)
+unfolding fieldsOf keepOf protectOf immedOf
+returns c = simp (c .before .before .before .method-of .ensures, c .tracks-of .ensures)
 
 pub fields-of-spec : {M : Type 1} → statement M
 fields-of-spec =
@@ -29,6 +29,6 @@ fields-of-spec =
     shared-slice-read-method-of
     method-of-requires
     shared-slice-read-flags
+    shared-slice-read-count
     tracks-of-requires
-    shared-slice-read-t12
     returns)
