@@ -21,13 +21,15 @@ use Rattle.recorder.specs.declared.script.Op.the-variants.{ModeSelect, S
 use Rattle.recorder.specs.Script.{script, write as writing}
 use Rattle.recorder.specs.Replies.{noSense}
 use Rattle.recorder.specs.Rules.{Found, none, found, refusal, ruled, play}
+use Rattle.recorder.specs.declared.job.Poll.{Poll}
+use Rattle.recorder.specs.declared.job.Poll.the-variants.{Off}
 use Rattle.recorder.specs.Job.{stands}
 
 abbrev pub track : Kind → ℕ → Track
 track k l = record { kind = k; length = record { 0 = l } }
 
 abbrev pub orderOf : Method → Bool → List Track → Order
-orderOf m keep ts = record { method = m; keep = keep; protect = false; count = length ts; tracks = ts ++ replicate (mostTracks - length ts) noTrack }
+orderOf m keep ts = record { method = m; keep = keep; protect = false; immed = false; count = length ts; tracks = ts ++ replicate (mostTracks - length ts) noTrack }
 
 -- audio tracks of these lengths
 abbrev pub audio : List ℕ → List Track
@@ -61,7 +63,7 @@ opened o y = after 2 o y y
 
 -- the bytes that the rules give after k such replies
 abbrev pub bytesAfter : ℕ → Order → Reply → List ℕ
-bytesAfter k o y = bytesOf (o .count) (ruled (pass o) (play (pass o) [] (replicate k y)))
+bytesAfter k o y = bytesOf (o .immed) (o .count) (ruled (pass o) (play (pass o) [] (replicate k y)))
 
 -- a failed reply of so many bytes: a response code, a sense key's byte, an additional sense code and its qualifier
 abbrev pub failed : ℕ → ℕ → ℕ → ℕ → ℕ → Reply
@@ -88,7 +90,7 @@ changed k g = after k (order Tao (300 ∷ [])) (plain 0 0 300) (g (plain 0 0 300
 
 -- whether a state at an operation, with the next block at a frame, passes the recorder's own test
 abbrev pub passes : Order → Op → ℕ → Bool
-passes o x at = stands o (record { place = x; seen = record { profile = 9; status = 0; at = record { 0 = at } } })
+passes o x at = stands o (record { place = x; poll = Off; seen = record { profile = 9; status = 0; at = record { 0 = at }; ready = false; progress = 0 } })
 
 pub record BenchSheets : Type 0 where
   -- those of the byte layouts

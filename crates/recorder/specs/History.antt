@@ -2,10 +2,11 @@
 -- holds of every history.
 use mathlib.Core.Path.{_≡_}
 use mathlib.Core.Logic.{_↔_}
-use mathlib.Core.Bool.{Bool, true, false}
+use mathlib.Core.Bool.{Bool, true, false, _||_}
 use mathlib.Core.List.{List, [], _∷_, _++_}
 use Prim.Native.Nat.{ℕ, _+_, _-_, _≤_, _<_, min}
 use lib.ListN.{length, getD}
+use Rattle.mmc.specs.Bytes.{if}
 use Rattle.mmc.specs.Refusals.{pass}
 use Rattle.mmc.specs.Order.{noTrack, tracksIn, allLong, blocksOf}
 use Rattle.mmc.specs.OrderBlock.{readOrder}
@@ -21,10 +22,10 @@ use Rattle.recorder.specs.declared.answers.Command.{Command}
 use Rattle.recorder.specs.declared.job.Recorder.{Recorder}
 use Rattle.recorder.specs.declared.job.Step.{Step}
 use Rattle.recorder.specs.Answers.{Why, because, Ruling, issue, done, stop, sheetBytes, madeFor, bytesIn}
-use Rattle.recorder.specs.Script.{gather, stepwise, write, Block, script, expected}
-use Rattle.recorder.specs.Exchanges.{Exchange, recorded, occupied, seen, Named, named}
+use Rattle.recorder.specs.Script.{gather, asksReady, isPoll, stepwise, write, Block, script, expected}
+use Rattle.recorder.specs.Exchanges.{Exchange, recorded, occupied, polling, progress, seen, Named, named}
 use Rattle.recorder.specs.Rules.{otherProfile, unsuitable, mixedOrKept, none, found, refusal, ruled, exchanged, play, orderedIn, AllClosed}
-use Rattle.recorder.specs.Job.{Next, nextIn, mostCommands, unchanged, validOf, takeOf, giveOf}
+use Rattle.recorder.specs.Job.{Next, nextIn, mostCommands, latestProgress, unchanged, validOf, idleRecorder, takeOf, giveOf}
 
 -- what the calls gave back since the order was taken: the last step; all answers, and the commands with the replies to them, the
 -- latest first
@@ -92,6 +93,20 @@ pub record Accompanied (o : Order) (x : Op) : Type 0 where
   pub page : (t : TrackNumber) → x ≡ ModeSelect t → (bytes : List ℕ) × (modeData o (getD (o .tracks) (t .0 - 1) noTrack .kind) ≡ pass bytes)
   pub sheet : x ≡ SendCueSheet → (bytes : List ℕ) × ((cueSheet o ≡ pass bytes) × (length bytes ≡ sheetBytes (o .count)))
 
+-- ---- of every command: of each that was answered, and of the one that is given, with the exchanges before it
+
+abbrev pub Each : (List Exchange → Command → Type 0) → List Exchange → Type 0
+Each P [] = Unit {0}
+Each P (e ∷ es) = P es (e .command) × Each P es
+
+abbrev pub OfAnswer : (Command → Type 0) → Ruling → Type 0
+OfAnswer P (issue c) = P c
+OfAnswer P done = Unit {0}
+OfAnswer P (stop w) = Unit {0}
+
+abbrev pub Every : (List Exchange → Command → Type 0) → List Exchange → Ruling → Type 0
+Every P es a = Each P es × OfAnswer (P es) a
+
 -- ---- no track is begun at a stale address
 
 -- a WRITE of k blocks of the track t from its block f on, given what the latest 52h named: it was named for this track, the WRITE lies
@@ -105,28 +120,39 @@ pub record FreshWrite (n : Named) (c : Command) (t f k : ℕ) : Type 0 where
 abbrev pub Fresh : List Exchange → Command → Type 0
 Fresh before c = (t f k : ℕ) → c .op ≡ write t f k → FreshWrite (named before) c t f k
 
--- each command that was answered, and the one that is given
-abbrev pub EachFresh : List Exchange → Type 0
-EachFresh [] = Unit {0}
-EachFresh (e ∷ es) = Fresh es (e .command) × EachFresh es
+-- ---- progress never skips a step: between a polled command and the end of its polling every command is a poll, and elsewhere none is
 
-abbrev pub FreshAnswer : List Exchange → Ruling → Type 0
-FreshAnswer es (issue c) = Fresh es c
-FreshAnswer es done = Unit {0}
-FreshAnswer es (stop w) = Unit {0}
+abbrev pub Unskipped : Bool → List Exchange → Command → Type 0
+Unskipped immed before c = isPoll (c .op) ≡ polling immed before
 
 -- ---- part 7
 
--- "all replies, each good"
-abbrev pub AllMarkedGood : List Reply → Type 0
-AllMarkedGood [] = Unit {0}
-AllMarkedGood (y ∷ ys) = (y .good ≡ true) × AllMarkedGood ys
+-- "all replies, each good", but a 00h that says not ready belongs to a polling
+abbrev pub AllWell : List Exchange → Type 0
+AllWell [] = Unit {0}
+AllWell (e ∷ es) = (e .reply .good || asksReady (e .command .op) ≡ true) × AllWell es
 
--- "it is done after exactly the count in document 01": of so many replies
-pub record AllGood (o : Order) (k : ℕ) (answers : List Ruling) : Type 0 where
-  pub given-count : length (commands answers) ≡ min (k + 1) (expected o)
-  pub done-at : expected o ≤ k → ended answers ≡ as-done
-  pub not-before : k < expected o → ended answers ≡ going
+-- "the exact count excludes polls"
+abbrev pub unpolled : List Command → ℕ
+unpolled [] = 0
+unpolled (c ∷ cs) = if (isPoll (c .op)) (unpolled cs) (1 + unpolled cs)
+
+-- the commands that were answered
+abbrev pub answered : List Exchange → List Command
+answered [] = []
+answered (e ∷ es) = e .command ∷ answered es
+
+-- "it is done after exactly the count in document 01", "where every polling ends": of k replies
+pub record AllGood (o : Order) (k : ℕ) (es : List Exchange) (answers : List Ruling) : Type 0 where
+  -- the commands that are no polls: one more than those answered, up to the count, and none more while a polling is under way
+  pub given-count : unpolled (commands answers) ≡ if (polling (o .immed) es) (unpolled (answered es)) (min (unpolled (answered es) + 1) (expected o))
+  -- done as soon as the whole count is answered and no polling is under way, and not before; each reply answers a command until then
+  pub done-at : expected o ≤ unpolled (answered es) → polling (o .immed) es ≡ false → ended answers ≡ as-done
+  pub not-before : unpolled (answered es) < expected o → ended answers ≡ going
+  pub not-polling : polling (o .immed) es ≡ true → ended answers ≡ going
+  pub each-reply : ended answers ≡ going → length es ≡ k
+  -- without the flag no command is a poll: done after k replies, if that is the count, and not before
+  pub no-polls : o .immed ≡ false → (polling (o .immed) es ≡ false) × ((unpolled (answered es) ≡ min k (expected o)) × (length (commands answers) ≡ min (k + 1) (expected o)))
 
 -- ---- demand 3
 
@@ -138,7 +164,7 @@ pub record Whole (b : List ℕ) (rs : List Reply) (h : History) : Type 0 where
   pub after-end : length (h .exchanges) < length rs → h .last .answer ≡ stop (because 13)
   pub unmoved : (ended (h .answers) ≡ going → ⊥) → (y : Reply) → given h y .last ≡ unchanged (h .last .state) 13
   -- the bytes of a command are those of its maker, which refuses none; so are the mode data and the cue sheet that go with it
-  pub made : (o : Order) → readOrder b ≡ pass o → (c : Command) → h .last .answer ≡ issue c → madeFor (o .count) c ≡ pass (bytesIn (h .last .cdb))
+  pub made : (o : Order) → readOrder b ≡ pass o → (c : Command) → h .last .answer ≡ issue c → madeFor (o .immed) (o .count) c ≡ pass (bytesIn (h .last .cdb))
   pub accompanied : (o : Order) → readOrder b ≡ pass o → (c : Command) → h .last .answer ≡ issue c → Accompanied o (c .op)
   -- 2: "The track blocks answered good are always a beginning of the ordered ones, each once, in order"
   pub in-order : (rest : List Block) × (recorded (h .exchanges) ++ rest ≡ orderedIn (readOrder b))
@@ -151,12 +177,16 @@ pub record Whole (b : List ℕ) (rs : List Reply) (h : History) : Type 0 where
   -- 6: the count in state and result is "the number of those commands", up to 2^64 - 1
   pub counted : h .last .state .count ≡ min (length (commands (h .answers))) mostCommands
   pub reported : h .last .count ≡ min (length (commands (h .answers))) mostCommands
-  -- 7: "If the order and all replies, each good and well formed, pass the checks, it is done after exactly the count in document 01"
-  pub all-good : (o : Order) → readOrder b ≡ pass o → AllMarkedGood rs → refusal (pass o) (h .exchanges) ≡ none → AllGood o (length rs) (h .answers)
+  -- 7: "If the order and all replies, each good and well formed, pass the checks, it is done after exactly the count in document 01", "where
+  -- every polling ends"
+  pub all-good : (o : Order) → readOrder b ≡ pass o → AllWell (h .exchanges) → refusal (pass o) (h .exchanges) ≡ none → AllGood o (length rs) (h .exchanges) (h .answers)
   -- 8: "every state that a history gives passes it", the recorder's own test
   pub is-valid : validOf (h .last .state) ≡ true
   -- "a track begun at a stale address spoils the disc": of every WRITE that is given
-  pub never-stale : (o : Order) → readOrder b ≡ pass o → stepwise (o .method) ≡ true → EachFresh (h .exchanges) × FreshAnswer (h .exchanges) (h .last .answer)
+  pub never-stale : (o : Order) → readOrder b ≡ pass o → stepwise (o .method) ≡ true → Every Fresh (h .exchanges) (h .last .answer)
+  -- "progress never skips a step", and the panel's is that of the polling under way
+  pub never-skips : (o : Order) → readOrder b ≡ pass o → Every (Unskipped (o .immed)) (h .exchanges) (h .last .answer)
+  pub shows : (o : Order) → readOrder b ≡ pass o → ended (h .answers) ≡ going → latestProgress (h .last .state .progress) ≡ if (polling (o .immed) (h .exchanges)) (progress (h .exchanges)) 0
 
 -- ---- part 7 speaks of something
 
@@ -167,12 +197,16 @@ abbrev pub AllBytes : List Reply → Type 0
 AllBytes [] = Unit {0}
 AllBytes (y ∷ ys) = Bytes (y .bytes) × AllBytes ys
 
--- replies that are bytes, good ones that the rules pass, one for each command of the script, from a disc of this profile and status
+abbrev pub AllMarkedGood : List Reply → Type 0
+AllMarkedGood [] = Unit {0}
+AllMarkedGood (y ∷ ys) = (y .good ≡ true) × AllMarkedGood ys
+
+-- replies that are bytes, good ones that the rules pass and that lead to the end as done, from a disc of this profile and status
 pub record Passing (o : Order) (profile status : ℕ) (rs : List Reply) : Type 0 where
   pub all-bytes : AllBytes rs
   pub marked : AllMarkedGood rs
   pub unrefused : refusal (pass o) (play (pass o) [] rs) ≡ none
-  pub enough : length rs ≡ expected o
+  pub enough : ruled (pass o) (play (pass o) [] rs) ≡ done
   pub of-profile : seen (o .method) (play (pass o) [] rs) .profile ≡ profile
   pub of-status : seen (o .method) (play (pass o) [] rs) .status ≡ status
 
@@ -206,4 +240,9 @@ pub record Takes (b : List ℕ) (s : Step) : Type 0 where
 pub record Gives (r : Recorder) (good : Bool) (d : List ℕ) (s : Step) : Type 0 where
   pub step : nextIn s ≡ giveOf r good d
   pub goes-on : (b : List ℕ) (rs : List Reply) → r ≡ history b rs .last .state → OfHistory b (rs ++ (replyOf good d ∷ [])) (nextIn s)
-  pub made : (c : Command) → nextIn s .answer ≡ issue c → madeFor (r .order .count) c ≡ pass (bytesIn (s .cdb))
+  pub made : (c : Command) → nextIn s .answer ≡ issue c → madeFor (r .order .immed) (r .order .count) c ≡ pass (bytesIn (s .cdb))
+
+-- `idle`: "Idle is before any order; a reply then is 13", and it stays idle
+pub record Rests (r : Recorder) : Type 0 where
+  pub state : r ≡ idleRecorder
+  pub unmoved : (good : Bool) (d : List ℕ) → giveOf r good d ≡ unchanged r 13

@@ -132,6 +132,15 @@ stepOf o s n (halt w) = nextOf (stateOf o s (phaseOf w) n) (stop w)
 abbrev pub unchanged : Recorder → ℕ → Next
 unchanged r n = nextOf r (stop (because n))
 
+-- "the latest progress of a polling under way, else 0"
+abbrev pub latestBy : Poll → ℕ → ℕ
+latestBy Off n = 0
+latestBy Ready n = n
+latestBy Sense n = n
+
+abbrev pub latestProgress : Progress → ℕ
+latestProgress s = latestBy (s .poll) (s .seen .progress)
+
 -- ---- "the recorder's own test"
 
 -- t is a track of n
@@ -221,7 +230,7 @@ giveOf r good d =
     (unchanged r 3))
 
 -- what the inner step asks for: a state that passes the test, and a reading of a reply to its command
-pub record Ready (o : Order) (s : Progress) (length next : ℕ) (r : Reading) : Type 0 where
+pub record Prepared (o : Order) (s : Progress) (length next : ℕ) (r : Reading) : Type 0 where
   pub length-is : length ≡ pieceOf o (trackIn (s .place))
   pub next-is : next ≡ pieceOf o (suc (trackIn (s .place)))
   pub passes : stands o s ≡ true

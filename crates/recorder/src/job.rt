@@ -5,7 +5,7 @@ ghost use mathlib.Core.List.{[]};
 ghost use Rattle.recorder.specs.Answers.{issue, said, cdbOf};
 ghost use Rattle.recorder.specs.declared.job.Phase.the-variants.{Going};
 ghost use Rattle.recorder.specs.History.{Takes, Gives, Rests};
-ghost use Rattle.recorder.specs.Job.{dueAt, inOrder, inTime, inPiece, isWrite, standsAt, standsIn, standsPolled, restsAt, validOf, Ready, commandOf, turnIn, advanced, onwardBy, turnOf, oneMore, stateOf, nextIn, nextOf, stepOf, opening};
+ghost use Rattle.recorder.specs.Job.{dueAt, inOrder, inTime, inPiece, isWrite, standsAt, standsIn, standsPolled, restsAt, validOf, Prepared, commandOf, turnIn, advanced, onwardBy, turnOf, oneMore, stateOf, nextIn, nextOf, stepOf, opening};
 use crate::answers::Answer;
 use crate::answers::Cdb;
 use crate::answers::Command;
@@ -329,7 +329,7 @@ fn stepped(o: Order, s: Progress, count: u64, m: Move) -> Step
 
 // What a reply leads to, where the piece at hand and the next one have so many blocks.
 fn turn(o: Order, s: Progress, length: u32, next: u32, reading: Reading) -> Move
-    requires { ⌜ Ready o s length next reading ⌝ }
+    requires { ⌜ Prepared o s length next reading ⌝ }
     ensures { λ r. ⌜ turnIn r ≡ turnOf o s reading ⌝ }
 {
     let m = o.method;
