@@ -13,7 +13,7 @@ use Rattle.mmc.specs.declared.units.FrameCount.{FrameCount}
 use Rattle.mmc.specs.declared.order.Order.{Order}
 use Rattle.mmc.specs.declared.order.Method.{Method}
 use Rattle.recorder.specs.declared.script.Op.{Op}
-use Rattle.recorder.specs.declared.script.Op.the-variants.{GetConfiguration, ReadDiscInformation, ReadTrackInformation, ModeSelect, SendCueSheet, Write, SynchronizeCache, CloseTrack, CloseSession}
+use Rattle.recorder.specs.declared.script.Op.the-variants.{GetConfiguration, ReadDiscInformation, ReadTrackInformation, ModeSelect, SendCueSheet, Write, SynchronizeCache, CloseTrack, CloseSession, TestUnitReady, RequestSense}
 use Rattle.recorder.specs.declared.replies.TrackInformation.{TrackInformation}
 use Rattle.recorder.specs.declared.replies.Reading.{Reading}
 use Rattle.recorder.specs.declared.exchanges.Seen.{Seen}
@@ -23,7 +23,7 @@ use Rattle.recorder.specs.Script.{countIn, stepwise}
 use Rattle.recorder.specs.Exchanges.{Exchange, upward, occupied, startAt, past, see, seen}
 use Rattle.recorder.specs.Rules.{unusable, fits, still, openingTests, laterTests, trackTests, judge, judged, Found, none, found, refusedBy, firstRefused}
 use Rattle.recorder.proofs.Lists.{false-true, none-found, neither, frames-back, Clear, passed-clear, Under, nowhere, under-more, under-upward, under-rises}
-use Rattle.recorder.proofs.Turns.{made, Played, nothing, then, Asks, a46, a51, a52, Reads, busy, failed, malformed, profile, status, information, unread, reads}
+use Rattle.recorder.proofs.Turns.{made, Played, nothing, then, Asks, a46, a51, a52, a03, Reads, busy, not-ready, failed, malformed, profile, status, information, indication, ready, unread, reads}
 use Rattle.recorder.proofs.Rulings.{unrefused-last}
 
 -- ---- a 52h that passed: the track is usable, and it fits
@@ -59,6 +59,8 @@ past-count (Write t f k) at = refl
 past-count (SynchronizeCache t) at = omega arith
 past-count (CloseTrack t) at = omega arith
 past-count CloseSession at = omega arith
+past-count TestUnitReady at = omega arith
+past-count RequestSense at = omega arith
 
 -- ---- the occupied frames rise, and lie before where the next block goes
 
@@ -66,6 +68,7 @@ asks-none : {x : Op} → Asks x → countIn x ≡ 0
 asks-none a46 = refl
 asks-none a51 = refl
 asks-none a52 = refl
+asks-none a03 = refl
 
 module _ (o : Order) (v : Seen) (l : List ℕ) (u : Under (v .at .0) l) where
   abbrev LaidBy : Bool → Op → Reading → Type 0
@@ -76,24 +79,30 @@ module _ (o : Order) (v : Seen) (l : List ℕ) (u : Under (v .at .0) l) where
   nothing-put xs k e h = subst (λ (m : List ℕ). Under k m) (sym (ap (λ (m : List ℕ). l ++ m) e ∙ append-nil l)) (under-more u h)
 
   laid-by : (x : Op) (g : Bool) (r : Reading) → Reads x g r → refusedBy (judge o v x r) ≡ none → LaidBy g x r
-  laid-by x g r busy j = nothing-put [] (v .at .0) refl (omega arith)
+  laid-by x g r (busy n) j = nothing-put [] (v .at .0) refl (omega arith)
+  laid-by x g r not-ready j = nothing-put [] (v .at .0) refl (omega arith)
   laid-by x g r failed j = absurd (none-found _ (sym j))
   laid-by x g r (malformed a) j = absurd (none-found _ (sym j))
   laid-by x g r profile j = nothing-put [] (v .at .0) refl (omega arith)
   laid-by x g r status j = nothing-put [] (v .at .0) refl (omega arith)
   laid-by x g r (information {t = t} {i = i}) j =
       nothing-put [] (startAt (o .method) (v .at) i .0) refl (start-above (o .method) (v .at) i (passed o (t .0) v i (passed-clear (trackTests o (t .0) v i) j) .usable))
-  laid-by x g r (unread q) j = subst (λ (k : ℕ). Under k (l ++ upward (v .at .0) (countIn x))) (sym (past-count x (v .at))) (under-upward (v .at .0) (countIn x) l u)
+  laid-by x g r indication j = nothing-put [] (v .at .0) refl (omega arith)
+  laid-by x g r ready j = nothing-put [] (v .at .0) refl (omega arith)
+  laid-by x g r (unread q n) j = subst (λ (k : ℕ). Under k (l ++ upward (v .at .0) (countIn x))) (sym (past-count x (v .at))) (under-upward (v .at .0) (countIn x) l u)
 
   -- a refused reply puts nothing
   refused-by : (x : Op) (g : Bool) (r : Reading) (w : Why) → Reads x g r → refusedBy (judge o v x r) ≡ found w → Under (v .at .0) (l ++ if g (upward (v .at .0) (countIn x)) [])
-  refused-by x g r w busy j = nothing-put [] (v .at .0) refl (omega arith)
+  refused-by x g r w (busy n) j = nothing-put [] (v .at .0) refl (omega arith)
+  refused-by x g r w not-ready j = nothing-put [] (v .at .0) refl (omega arith)
   refused-by x g r w failed j = nothing-put [] (v .at .0) refl (omega arith)
   refused-by x g r w (malformed a) j = nothing-put _ (v .at .0) (ap (upward (v .at .0)) (asks-none a)) (omega arith)
   refused-by x g r w profile j = nothing-put [] (v .at .0) refl (omega arith)
   refused-by x g r w status j = nothing-put [] (v .at .0) refl (omega arith)
   refused-by x g r w information j = nothing-put [] (v .at .0) refl (omega arith)
-  refused-by x g r w (unread q) j = absurd (none-found w j)
+  refused-by x g r w indication j = nothing-put [] (v .at .0) refl (omega arith)
+  refused-by x g r w ready j = nothing-put [] (v .at .0) refl (omega arith)
+  refused-by x g r w (unread q n) j = absurd (none-found w j)
 
 record Laid (o : Order) (es : List Exchange) : Type 0 where
   bound : ℕ

@@ -1,24 +1,26 @@
 -- All replies good and passing: the rules' end comes after the script's length, and not before. Part 7.
 use mathlib.Core.Path.{_≡_, refl, sym, ap, subst, _∙_}
-use mathlib.Core.Bool.{Bool, true}
+use mathlib.Core.Bool.{Bool, true, false, _&&_, _||_}
 use mathlib.Core.List.{List, [], _∷_}
 use Prim.Native.Nat.{ℕ, suc, _+_, _≤_, _<_}
 use native.Mathlib.Omega.{arith}
 use lib.ListN.{length}
+use Rattle.mmc.specs.Bytes.{if}
 use Rattle.mmc.specs.Refusals.{Outcome, pass}
 use Rattle.mmc.specs.Order.{tracksIn}
 use Rattle.mmc.specs.ReplyBlock.{Reply}
 use Rattle.mmc.specs.declared.order.Order.{Order}
 use Rattle.recorder.specs.declared.script.Op.{Op}
 use Rattle.recorder.specs.Answers.{Ruling, issue, done, stop}
-use Rattle.recorder.specs.Script.{script, expected}
-use Rattle.recorder.specs.Exchanges.{Exchange}
+use Rattle.recorder.specs.Script.{isClosing, asksReady, isPoll, isPolled, script, expected}
+use Rattle.recorder.specs.Exchanges.{Exchange, ends, polling}
 use Rattle.recorder.specs.Rules.{Judgement, move, judged, left, none, refusedBy, firstRefused, ruled, exchanged, play}
-use Rattle.recorder.specs.History.{going, as-done, ending, AllMarkedGood}
-use Rattle.recorder.proofs.Lists.{false-true, none-found, clash}
-use Rattle.recorder.proofs.Turns.{made, Played, nothing, then, played, Turn, repeats, refuses, works, turn}
-use Rattle.recorder.proofs.Scripts.{script-length}
-use Rattle.recorder.proofs.Rulings.{unrefused-last, ruled-at}
+use Rattle.recorder.specs.History.{commandIn, going, as-done, ending, AllWell, unpolled, answered}
+use Rattle.recorder.proofs.Lists.{if-yes, if-no, false-true, none-found, clash}
+use Rattle.recorder.proofs.Turns.{made, Played, nothing, then, played, Turn, repeats, refuses, works, polls-begin, asks, polls-on, polls-end, turn}
+use Rattle.recorder.proofs.Plans.{Scripted}
+use Rattle.recorder.proofs.Scripts.{script-length, scripted}
+use Rattle.recorder.proofs.Rulings.{unrefused-last, ruled-at, rule-done, due-poll}
 
 -- ---- each reply makes an exchange until the end
 
@@ -46,60 +48,108 @@ timed o rs =
     let z : 0 ≤ 0 = omega arith in
     subst (λ (j : ℕ). Timed (pass o) j (play (pass o) [] rs)) e (timed-on o rs 0 [] (record { at-most = z; exact = λ q. refl }))
 
--- ---- good replies make good exchanges
+-- ---- the operations that are no polls
 
-abbrev AllGoodIn : List Exchange → Type 0
-AllGoodIn [] = Unit {0}
-AllGoodIn (e ∷ es) = (e .reply .good ≡ true) × AllGoodIn es
+abbrev pub counted : List Op → ℕ
+counted [] = 0
+counted (x ∷ l) = if (isPoll x) (counted l) (suc (counted l))
 
-good-turn : (a : Ruling) (y : Reply) (es : List Exchange) → y .good ≡ true → AllGoodIn es → AllGoodIn (exchanged a y es)
-good-turn (issue c) y es g h = (g, h)
-good-turn done y es g h = h
-good-turn (stop w) y es g h = h
+abbrev weight : Op → ℕ
+weight x = if (isPoll x) 0 1
 
-good-on : (o : Order) (rs : List Reply) (es : List Exchange) → AllMarkedGood rs → AllGoodIn es → AllGoodIn (play (pass o) es rs)
-good-on o [] es g h = h
-good-on o (y ∷ rs) es g h = good-on o rs (exchanged (ruled (pass o) es) y es) (g .1) (good-turn (ruled (pass o) es) y es (g .0) h)
+weighed : (b : Bool) (n : ℕ) → if b n (suc n) ≡ n + if b 0 1
+weighed true n = omega arith
+weighed false n = omega arith
 
--- ---- each takes one operation off what is left
+taken : (x : Op) (l : List Op) → isPoll x ≡ false → counted l + weight x ≡ counted (x ∷ l)
+taken x l n = sym (weighed (isPoll x) (counted l))
 
-pub one-less : (x : Op) (l : List Op) (b : Bool) (j : Judgement) → Turn x b j → b ≡ true → refusedBy j ≡ none → move j (x ∷ l) ≡ l
-one-less x l b j repeats g u = absurd (false-true g)
-one-less x l b j (refuses q) g u = absurd (none-found _ (sym u))
-one-less x l b j works g u = refl
+-- each reply takes one of them off what is left, if it answers one
+taken-turn : (p b q : Bool) (x : Op) (l : List Op) (j : Judgement) → Turn p x b q j → b || asksReady x ≡ true → refusedBy j ≡ none → counted (move j (x ∷ l)) + weight x ≡ counted (x ∷ l)
+taken-turn p b q x l j (repeats n) g u = absurd (false-true (sym n ∙ g))
+taken-turn p b q x l j (refuses k) g u = absurd (none-found _ (sym u))
+taken-turn p b q x l j (works n) g u = taken x l n
+taken-turn p b q x l j (polls-begin n) g u = taken x l n
+taken-turn p b q x l j asks g u = omega arith
+taken-turn p b q x l j polls-on g u = omega arith
+taken-turn p b q x l j polls-end g u = omega arith
 
-all-taken : (o : Order) (es : List Exchange) → Played o es → AllGoodIn es → firstRefused o es ≡ none → length es + length (left o es) ≡ length (script o)
+-- what is answered and what is left are together the script
+all-taken : (o : Order) (es : List Exchange) → Played o es → AllWell es → firstRefused o es ≡ none → unpolled (answered es) + counted (left o es) ≡ counted (script o)
 all-taken o es nothing g v = omega arith
 all-taken o es (then {es = before} {x = x} {l = l} p u e y) g v =
     let i = all-taken o before p (g .1) u in
-    let a : length (left o before) ≡ suc (length l) = ap length e in
-    let b : left o (made o before x y ∷ before) ≡ l =
-    ap (move (judged o before (made o before x y))) e ∙ one-less x l (y .good) _ (turn o before x y) (g .0) (unrefused-last o before (made o before x y) u v) in
-    let c = ap length b in
+    let a : counted (left o before) ≡ counted (x ∷ l) = ap counted e in
+    let b : counted (left o (made o before x y ∷ before)) ≡ counted (move (judged o before (made o before x y)) (x ∷ l)) = ap (λ (m : List Op). counted (move (judged o before (made o before x y)) m)) e in
+    let c = taken-turn _ (y .good) _ x l _ (turn o before x y) (g .0) (unrefused-last o before (made o before x y) u v) in
+    let d : unpolled (answered (made o before x y ∷ before)) ≡ unpolled (answered before) + weight x = weighed (isPoll x) (unpolled (answered before)) in
     omega arith
 
--- ---- part 7, over the rules: either a command is given and the replies are fewer than the count, or the job is done and all of the
--- script is answered
+-- no poll stands in the script
+script-counted : (l : List Op) → Scripted l → counted l ≡ length l
+script-counted [] z = refl
+script-counted (x ∷ l) z = if-no _ _ (z .1 .0) ∙ ap suc (script-counted l (z .1 .1))
+
+-- ---- without the flag there is no polling, and no poll
+
+never-polled : (b : Bool) → b && false ≡ false
+never-polled true = refl
+never-polled false = refl
+
+pub never-polling : (es : List Exchange) → polling false es ≡ false
+never-polling [] = refl
+never-polling (e ∷ es) = go (e .reply .good) (isPolled false (e .command .op)) (never-polled (isClosing (e .command .op))) (ends es e) (polling false es) (never-polling es)
+  where
+    go : (g b : Bool) → b ≡ false → (c p : Bool) → p ≡ false → if (g && b) true (if c false p) ≡ false
+    go true b n true p q = if-no _ _ n
+    go true b n false p q = if-no _ _ n ∙ q
+    go false b n true p q = refl
+    go false b n false p q = q
+
+all-unpolled : (o : Order) (es : List Exchange) → polling (o .immed) es ≡ false → Played o es → ((ds : List Exchange) → polling (o .immed) ds ≡ false) → unpolled (answered es) ≡ length es
+all-unpolled o es f nothing n = refl
+all-unpolled o es f (then {es = before} {x = x} {l = l} p u e y) n =
+    if-no _ _ (due-poll o before x l p e ∙ n before) ∙ ap suc (all-unpolled o before (n before) p n)
+
+pub no-polls : (o : Order) (es : List Exchange) → o .immed ≡ false → Played o es → unpolled (answered es) ≡ length es
+no-polls o es f p = all-unpolled o es (none es) p none
+  where
+    none : (ds : List Exchange) → polling (o .immed) ds ≡ false
+    none ds = ap (λ (b : Bool). polling b ds) f ∙ never-polling ds
+
+-- ---- part 7, over the rules: a command of the script is given, and what was answered of it is less than the count; a poll is given; or
+-- the job is done, and all of the script is answered
 
 pub data Progressed (o : Order) (k : ℕ) (es : List Exchange) : Type 0 where
-  under-way : ending (ruled (pass o) es) ≡ going → length es ≡ k → k < expected o → Progressed o k es
-  at-end : ending (ruled (pass o) es) ≡ as-done → length es ≡ expected o → expected o ≤ k → Progressed o k es
+  under-way : ending (ruled (pass o) es) ≡ going → length es ≡ k → polling (o .immed) es ≡ false → unpolled (commandIn (ruled (pass o) es)) ≡ 1 → unpolled (answered es) < expected o → Progressed o k es
+  polled : ending (ruled (pass o) es) ≡ going → length es ≡ k → polling (o .immed) es ≡ true → unpolled (commandIn (ruled (pass o) es)) ≡ 0 → unpolled (answered es) ≤ expected o → Progressed o k es
+  at-end : ending (ruled (pass o) es) ≡ as-done → length es ≤ k → polling (o .immed) es ≡ false → unpolled (commandIn (ruled (pass o) es)) ≡ 0 → unpolled (answered es) ≡ expected o → Progressed o k es
 
-pub rule-good : (o : Order) (rs : List Reply) → length (tracksIn o) ≡ o .count → AllMarkedGood rs → firstRefused o (play (pass o) [] rs) ≡ none → Progressed o (length rs) (play (pass o) [] rs)
-rule-good o rs n g u = go (left o (play (pass o) [] rs)) refl
+pub rule-good : (o : Order) (rs : List Reply) → length (tracksIn o) ≡ o .count → AllWell (play (pass o) [] rs) → firstRefused o (play (pass o) [] rs) ≡ none → Progressed o (length rs) (play (pass o) [] rs)
+rule-good o rs n g u = go (left o es) refl (polling (o .immed) es) refl
   where
-    total : length (play (pass o) [] rs) + length (left o (play (pass o) [] rs)) ≡ expected o
-    total = all-taken o (play (pass o) [] rs) (played o rs) (good-on o rs [] g tt) u ∙ script-length o n
+    es : List Exchange
+    es = play (pass o) [] rs
 
-    go : (l : List Op) → left o (play (pass o) [] rs) ≡ l → Progressed o (length rs) (play (pass o) [] rs)
-    go [] e =
+    total : unpolled (answered es) + counted (left o es) ≡ expected o
+    total = all-taken o es (played o rs) g u ∙ script-counted (script o) (scripted o) ∙ script-length o n
+
+    given : (x : Op) (l : List Op) → left o es ≡ x ∷ l → unpolled (commandIn (ruled (pass o) es)) ≡ weight x
+    given x l e = ap (λ (a : Ruling). unpolled (commandIn a)) (ruled-at o es (x ∷ l) u e)
+
+    go : (l : List Op) → left o es ≡ l → (b : Bool) → polling (o .immed) es ≡ b → Progressed o (length rs) es
+    go [] e b q =
         let a = total in
-        let c : length (left o (play (pass o) [] rs)) ≡ 0 = ap length e in
-        let m = timed o rs .at-most in
-        at-end (ap ending (ruled-at o (play (pass o) [] rs) [] u e)) (omega arith) (omega arith)
-    go (x ∷ l) e =
+        let c : counted (left o es) ≡ 0 = ap counted e in
+        at-end (ap ending (ruled-at o es [] u e)) (timed o rs .at-most) (rule-done o es (played o rs) .0 (ruled-at o es [] u e) .1 .1) (ap (λ (a : Ruling). unpolled (commandIn a)) (ruled-at o es [] u e)) (omega arith)
+    go (x ∷ l) e true q =
         let a = total in
-        let c : length (left o (play (pass o) [] rs)) ≡ suc (length l) = ap length e in
-        let d : ending (ruled (pass o) (play (pass o) [] rs)) ≡ going = ap ending (ruled-at o (play (pass o) [] rs) (x ∷ l) u e) in
-        let t = timed o rs .exact d in
-        under-way d t (omega arith)
+        let d : ending (ruled (pass o) es) ≡ going = ap ending (ruled-at o es (x ∷ l) u e) in
+        let i : isPoll x ≡ true = due-poll o es x l (played o rs) e ∙ q in
+        polled d (timed o rs .exact d) q (given x l e ∙ if-yes _ _ i) (omega arith)
+    go (x ∷ l) e false q =
+        let a = total in
+        let d : ending (ruled (pass o) es) ≡ going = ap ending (ruled-at o es (x ∷ l) u e) in
+        let i : isPoll x ≡ false = due-poll o es x l (played o rs) e ∙ q in
+        let c : counted (left o es) ≡ suc (counted l) = ap counted e ∙ if-no _ _ i in
+        under-way d (timed o rs .exact d) q (given x l e ∙ if-no _ _ i) (omega arith)

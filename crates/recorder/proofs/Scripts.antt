@@ -14,11 +14,11 @@ use Rattle.recorder.specs.declared.script.Op.{Op}
 use Rattle.recorder.specs.declared.script.Op.the-variants.{GetConfiguration, ReadDiscInformation, ReadTrackInformation, ModeSelect, SendCueSheet, SynchronizeCache, CloseTrack}
 use Rattle.recorder.specs.Script.{gather, portion, writesFor, writes, writesFrom, eachTrack, script, writesIn, expectedBy, expected, Block, blocks, blocksFrom, ordered, blocksIn}
 use Rattle.recorder.proofs.Lists.{gather-append, blocks-split}
-use Rattle.recorder.proofs.Plans.{Unclosed, AllUnclosed, all-before}
+use Rattle.recorder.proofs.Plans.{Unclosed, Scripted, Calm, scripted-before}
 
 -- the order with a method: its own gives it back
 abbrev pub by : Order → Method → Order
-by o m = record { method = m; keep = o .keep; protect = o .protect; count = o .count; tracks = o .tracks }
+by o m = record { method = m; keep = o .keep; protect = o .protect; immed = o .immed; count = o .count; tracks = o .tracks }
 
 -- ---- length
 
@@ -91,18 +91,25 @@ script-blocks o = go (o .method)
     go Tao = each-blocks Tao o 0 (tracksIn o)
     go Sao = part (writesFrom 0 leadFrames 0) (eachTrack (by o Sao) 0 (tracksIn o)) [] (pause-blocks leadFrames 0 (writesFor (leadFrames - 0))) ∙ each-blocks Sao o 0 (tracksIn o)
 
--- ---- closing commands
+-- ---- closing commands, and no polls
 
 one : 1 ≤ 1
 one = omega arith
 
 record Closes (l : List Op) : Type 0 where
   some : Unclosed l
-  all : AllUnclosed l
+  all : Scripted l
 
-closes-before : (xs l : List Op) → Closes l → Closes (xs ++ l)
-closes-before [] l c = c
-closes-before (x ∷ xs) l c = let a = all-before (x ∷ xs) l (c .some) (c .all) in record { some = a .0; all = a }
+closes-before : (xs l : List Op) → Calm xs → Closes l → Closes (xs ++ l)
+closes-before [] l k c = c
+closes-before (x ∷ xs) l k c = let a = scripted-before (x ∷ xs) l k (c .some) (c .all) in record { some = a .0; all = a }
+
+writes-calm : (t l f k : ℕ) → Calm (writes t l f k)
+writes-calm t l f zero = tt
+writes-calm t l f (suc k) = (refl, writes-calm t l (f + portion l f) k)
+
+all-calm : (t l : ℕ) → Calm (writesFrom t l 0)
+all-calm t l = writes-calm t l 0 (writesFor (l - 0))
 
 -- 35h and 5Bh function 1
 closes-track : (t : ℕ) (l : List Op) → Closes l → Closes (SynchronizeCache (record { 0 = t }) ∷ CloseTrack (record { 0 = t }) ∷ l)
@@ -110,21 +117,22 @@ closes-track t l c =
     let s = c .some in
     let a : Unclosed (CloseTrack (record { 0 = t }) ∷ l) = omega arith in
     let b : Unclosed (SynchronizeCache (record { 0 = t }) ∷ CloseTrack (record { 0 = t }) ∷ l) = omega arith in
-    record { some = b; all = (b, (a, c .all)) }
+    record { some = b; all = (b, (refl, (a, (refl, c .all)))) }
 
 each-closes : (m : Method) (o : Order) (t : ℕ) (xs : List Track) → Closes (eachTrack (by o m) t xs)
-each-closes Tao o t [] = record { some = one; all = (one, tt) }
-each-closes Sao o t [] = record { some = one; all = (one, tt) }
+each-closes Tao o t [] = record { some = one; all = (one, (refl, tt)) }
+each-closes Sao o t [] = record { some = one; all = (one, (refl, tt)) }
 each-closes Tao o t (x ∷ xs) =
-    closes-before (ReadTrackInformation (record { 0 = suc t }) ∷ ModeSelect (record { 0 = suc t }) ∷ writesFrom (suc t) (x .length .0) 0) _ (closes-track (suc t) _ (each-closes Tao o (suc t) xs))
-each-closes Sao o t (x ∷ xs) = closes-before (writesFrom (suc t) (x .length .0) 0) _ (each-closes Sao o (suc t) xs)
+    closes-before (ReadTrackInformation (record { 0 = suc t }) ∷ ModeSelect (record { 0 = suc t }) ∷ writesFrom (suc t) (x .length .0) 0) _ (refl, (refl, all-calm (suc t) (x .length .0)))
+    (closes-track (suc t) _ (each-closes Tao o (suc t) xs))
+each-closes Sao o t (x ∷ xs) = closes-before (writesFrom (suc t) (x .length .0) 0) _ (all-calm (suc t) (x .length .0)) (each-closes Sao o (suc t) xs)
 
-pub script-unclosed : (o : Order) → AllUnclosed (script o)
-script-unclosed o = go (o .method)
+pub scripted : (o : Order) → Scripted (script o)
+scripted o = go (o .method)
   where
-    go : (m : Method) → AllUnclosed (script (by o m))
-    go Tao = closes-before (GetConfiguration ∷ ReadDiscInformation ∷ []) _ (each-closes Tao o 0 (tracksIn o)) .all
+    go : (m : Method) → Scripted (script (by o m))
+    go Tao = closes-before (GetConfiguration ∷ ReadDiscInformation ∷ []) _ (refl, (refl, tt)) (each-closes Tao o 0 (tracksIn o)) .all
     go Sao =
         closes-before
         (GetConfiguration ∷ ReadDiscInformation ∷ ReadTrackInformation (record { 0 = 1 }) ∷ ModeSelect (record { 0 = 1 }) ∷ SendCueSheet ∷ writesFrom 0 leadFrames 0)
-        _ (each-closes Sao o 0 (tracksIn o)) .all
+        _ (refl, (refl, (refl, (refl, (refl, all-calm 0 leadFrames))))) (each-closes Sao o 0 (tracksIn o)) .all

@@ -1,26 +1,28 @@
 -- One exchange by the rules: the only place where operations and replies are told apart for the plan.
-use mathlib.Core.Path.{_≡_, refl}
-use mathlib.Core.Bool.{Bool, true, false, _||_}
+use mathlib.Core.Path.{_≡_, refl, sym, ap, subst, _∙_}
+use mathlib.Core.Bool.{Bool, true, false, not, _&&_, _||_}
 use mathlib.Core.List.{List, [], _∷_}
 use Prim.Native.Nat.{ℕ}
-use lib.Dec.{eqb}
+use lib.Dec.{leb, eqb}
+use lib.ListN.{length}
 use Rattle.mmc.specs.Bytes.{if}
 use Rattle.mmc.specs.Refusals.{pass}
 use Rattle.mmc.specs.ReplyBlock.{Reply}
 use Rattle.mmc.specs.declared.units.TrackNumber.{TrackNumber}
 use Rattle.mmc.specs.declared.order.Order.{Order}
+use Rattle.mmc.specs.declared.order.Method.{Method}
 use Rattle.recorder.specs.declared.script.Op.{Op}
-use Rattle.recorder.specs.declared.script.Op.the-variants.{GetConfiguration, ReadDiscInformation, ReadTrackInformation, ModeSelect, SendCueSheet, Write, SynchronizeCache, CloseTrack, CloseSession}
+use Rattle.recorder.specs.declared.script.Op.the-variants.{GetConfiguration, ReadDiscInformation, ReadTrackInformation, ModeSelect, SendCueSheet, Write, SynchronizeCache, CloseTrack, CloseSession, TestUnitReady, RequestSense}
 use Rattle.recorder.specs.declared.replies.Sense.{Sense}
 use Rattle.recorder.specs.declared.replies.TrackInformation.{TrackInformation}
 use Rattle.recorder.specs.declared.replies.Reading.{Reading}
-use Rattle.recorder.specs.declared.replies.Reading.the-variants.{Busy, Failed, Malformed, Profile, Status, Information, Unread}
+use Rattle.recorder.specs.declared.replies.Reading.the-variants.{Busy, NotReady, Failed, Malformed, Profile, Status, Information, ProgressIndication, Unread}
 use Rattle.recorder.specs.declared.exchanges.Seen.{Seen}
 use Rattle.recorder.specs.Answers.{Why, because}
-use Rattle.recorder.specs.Replies.{senseOf, isBusy, readFailed, wholeProfile, readProfile, wholeDisc, readStatus, wholeInformation, readInformation, readGood, reading}
-use Rattle.recorder.specs.Script.{code}
-use Rattle.recorder.specs.Exchanges.{Exchange, seen}
-use Rattle.recorder.specs.Rules.{Judgement, again, onward, refused, Test, tested, trackTests, judge, left, Found, none, found, firstRefused, command, answerTo, ruled, exchanged, play}
+use Rattle.recorder.specs.Replies.{senseOf, isBusy, readFailed, isUnready, readUnready, wholeProfile, readProfile, wholeDisc, readStatus, wholeInformation, readInformation, progressOf, readProgress, readGood, failedBy, reading, ofProgress}
+use Rattle.recorder.specs.Script.{code, asksReady, isPoll, isPolled, polls}
+use Rattle.recorder.specs.Exchanges.{Exchange, wasReady, polling, see, seen}
+use Rattle.recorder.specs.Rules.{Judgement, again, onward, refused, Test, tested, trackTests, pollsIf, judge, judged, left, Found, none, found, firstRefused, command, answerTo, ruled, exchanged, play}
 
 -- ---- the exchanges that the rules make
 
@@ -54,18 +56,22 @@ pub data Asks : Op → Type 0 where
   a46 : Asks GetConfiguration
   a51 : Asks ReadDiscInformation
   a52 : {t : TrackNumber} → Asks (ReadTrackInformation t)
+  a03 : Asks RequestSense
 
 abbrev pub isAsking : Op → Bool
-isAsking x = eqb (code x) 0x46 || (eqb (code x) 0x51 || eqb (code x) 0x52)
+isAsking x = eqb (code x) 0x46 || (eqb (code x) 0x51 || (eqb (code x) 0x52 || eqb (code x) 0x03))
 
 pub data Reads : Op → Bool → Reading → Type 0 where
-  busy : {x : Op} → Reads x false Busy
+  busy : {x : Op} → asksReady x ≡ false → Reads x false Busy
+  not-ready : Reads TestUnitReady false NotReady
   failed : {x : Op} {s : Sense} → Reads x false (Failed s)
   malformed : {x : Op} → Asks x → Reads x true Malformed
   profile : {p : ℕ} → Reads GetConfiguration true (Profile p)
   status : {q : ℕ} → Reads ReadDiscInformation true (Status q)
   information : {t : TrackNumber} {i : TrackInformation} → Reads (ReadTrackInformation t) true (Information i)
-  unread : {x : Op} → isAsking x ≡ false → Reads x true Unread
+  indication : {n : ℕ} → Reads RequestSense true (ProgressIndication n)
+  ready : Reads TestUnitReady true Unread
+  unread : {x : Op} → isAsking x ≡ false → isPoll x ≡ false → Reads x true Unread
 
 -- a whole reply, or a malformed one
 by-form : (x : Op) (b : Bool) (r : Reading) → Asks x → Reads x true r → Reads x true (if b r Malformed)
@@ -73,60 +79,155 @@ by-form x true r a w = w
 by-form x false r a w = malformed a
 
 reads-good : (x : Op) (d : List ℕ) → Reads x true (readGood x d)
-unfolding readProfile readStatus readInformation
+unfolding readProfile readStatus readInformation readProgress
 reads-good GetConfiguration d = by-form GetConfiguration (wholeProfile d) _ a46 profile
 reads-good ReadDiscInformation d = by-form ReadDiscInformation (wholeDisc d) _ a51 status
 reads-good (ReadTrackInformation t) d = by-form (ReadTrackInformation t) (wholeInformation d) _ a52 information
-reads-good (ModeSelect t) d = unread refl
-reads-good SendCueSheet d = unread refl
-reads-good (Write t f k) d = unread refl
-reads-good (SynchronizeCache t) d = unread refl
-reads-good (CloseTrack t) d = unread refl
-reads-good CloseSession d = unread refl
+reads-good (ModeSelect t) d = unread refl refl
+reads-good SendCueSheet d = unread refl refl
+reads-good (Write t f k) d = unread refl refl
+reads-good (SynchronizeCache t) d = unread refl refl
+reads-good (CloseTrack t) d = unread refl refl
+reads-good CloseSession d = unread refl refl
+reads-good TestUnitReady d = ready
+reads-good RequestSense d = by-form RequestSense (leb 18 (length d)) _ a03 indication
 
-reads-failed : (x : Op) (d : List ℕ) → Reads x false (readFailed d)
+reads-busy : (x : Op) (d : List ℕ) → asksReady x ≡ false → Reads x false (readFailed d)
 unfolding readFailed
-reads-failed x d = go (isBusy d)
+reads-busy x d q = go (isBusy d)
   where
     go : (b : Bool) → Reads x false (if b Busy (Failed (senseOf d)))
-    go true = busy
+    go true = busy q
     go false = failed
+
+reads-unready : (d : List ℕ) → Reads TestUnitReady false (readUnready d)
+unfolding readUnready
+reads-unready d = go (isUnready d)
+  where
+    go : (b : Bool) → Reads TestUnitReady false (if b NotReady (Failed (senseOf d)))
+    go true = not-ready
+    go false = failed
+
+reads-failed : (x : Op) (d : List ℕ) → Reads x false (failedBy x d)
+reads-failed GetConfiguration d = reads-busy GetConfiguration d refl
+reads-failed ReadDiscInformation d = reads-busy ReadDiscInformation d refl
+reads-failed (ReadTrackInformation t) d = reads-busy (ReadTrackInformation t) d refl
+reads-failed (ModeSelect t) d = reads-busy (ModeSelect t) d refl
+reads-failed SendCueSheet d = reads-busy SendCueSheet d refl
+reads-failed (Write t f k) d = reads-busy (Write t f k) d refl
+reads-failed (SynchronizeCache t) d = reads-busy (SynchronizeCache t) d refl
+reads-failed (CloseTrack t) d = reads-busy (CloseTrack t) d refl
+reads-failed CloseSession d = reads-busy CloseSession d refl
+reads-failed TestUnitReady d = reads-unready d
+reads-failed RequestSense d = reads-busy RequestSense d refl
 
 pub reads : (x : Op) (y : Reply) → Reads x (y .good) (reading x y)
 reads x y = go (y .good)
   where
-    go : (g : Bool) → Reads x g (if g (readGood x (y .bytes)) (readFailed (y .bytes)))
+    go : (g : Bool) → Reads x g (if g (readGood x (y .bytes)) (failedBy x (y .bytes)))
     go true = reads-good x (y .bytes)
     go false = reads-failed x (y .bytes)
 
--- ---- what it may do to the plan
+-- ---- what it may do to the plan, and to a polling
 
 -- a reply that gets nothing done
 pub data Idle (x : Op) : Bool → Type 0 where
   not-good : Idle x false
   only-asked : {g : Bool} → Asks x → Idle x g
 
-pub data Turn (x : Op) : Bool → Judgement → Type 0 where
-  repeats : Turn x false again
-  refuses : {g : Bool} {w : Why} → Idle x g → Turn x g (refused w)
-  works : Turn x true (onward [])
+-- with a polling under way before it (p), by its mark (g), and with one under way after it (q)
+pub data Turn (p : Bool) : Op → Bool → Bool → Judgement → Type 0 where
+  repeats : {x : Op} → asksReady x ≡ false → Turn p x false p again
+  refuses : {x : Op} {g : Bool} {w : Why} → Idle x g → Turn p x g p (refused w)
+  works : {x : Op} → isPoll x ≡ false → Turn p x true p (onward [])
+  polls-begin : {x : Op} → isPoll x ≡ false → Turn p x true true (onward polls)
+  asks : {g : Bool} → Turn p TestUnitReady g p (onward [])
+  polls-on : Turn p RequestSense true p (onward polls)
+  polls-end : Turn p RequestSense true false (onward [])
 
-turn-tested : (x : Op) (ts : List Test) → Asks x → Turn x true (tested ts)
-turn-tested x [] a = works
-turn-tested x (t ∷ ts) a = go (t .applies) (turn-tested x ts a)
+turn-tested : (p : Bool) (x : Op) (ts : List Test) → Asks x → isPoll x ≡ false → Turn p x true p (tested ts)
+turn-tested p x [] a n = works n
+turn-tested p x (t ∷ ts) a n = go (t .applies) (turn-tested p x ts a n)
   where
-    go : (b : Bool) → Turn x true (tested ts) → Turn x true (if b (refused (because (t .number))) (tested ts))
+    go : (b : Bool) → Turn p x true p (tested ts) → Turn p x true p (if b (refused (because (t .number))) (tested ts))
     go true k = refuses (only-asked a)
     go false k = k
 
-pub turn-by : (o : Order) (v : Seen) (x : Op) (g : Bool) (r : Reading) → Reads x g r → Turn x g (judge o v x r)
-turn-by o v x g r busy = repeats
-turn-by o v x g r failed = refuses not-good
-turn-by o v x g r (malformed a) = refuses (only-asked a)
-turn-by o v x g r profile = works
-turn-by o v x g r status = works
-turn-by o v x g r (information {t = t} {i = i}) = turn-tested x (trackTests o (t .0) v i) a52
-turn-by o v x g r (unread q) = works
+-- a polling after a reply
+abbrev pollingBy : Bool → Bool → Bool → Op → Bool → Reading → Bool
+pollingBy p immed was x g r = if (g && isPolled immed x) true (if (ofProgress false (λ n. eqb n 0) r && was) false p)
 
-pub turn : (o : Order) (es : List Exchange) (x : Op) (y : Reply) → Turn x (y .good) (judge o (seen (o .method) es) x (reading x y))
-turn o es x y = turn-by o (seen (o .method) es) x (y .good) (reading x y) (reads x y)
+-- a good reply that is not read, by whether its operation is polled
+turn-worked : (p : Bool) (x : Op) (b : Bool) → isPoll x ≡ false → Turn p x true (if b true p) (pollsIf b)
+turn-worked p x true n = polls-begin n
+turn-worked p x false n = works n
+
+turn-heard : (p was zero : Bool) → Turn p RequestSense true (if (zero && was) false p) (pollsIf (not (was && zero)))
+turn-heard p true true = polls-end
+turn-heard p true false = polls-on
+turn-heard p false true = polls-on
+turn-heard p false false = polls-on
+
+pub turn-by : (p : Bool) (o : Order) (v : Seen) (x : Op) (g : Bool) (r : Reading) → Reads x g r → Turn p x g (pollingBy p (o .immed) (v .ready) x g r) (judge o v x r)
+turn-by p o v x g r (busy n) = repeats n
+turn-by p o v x g r not-ready = asks
+turn-by p o v x g r failed = refuses not-good
+turn-by p o v x g r (malformed a46) = refuses (only-asked a46)
+turn-by p o v x g r (malformed a51) = refuses (only-asked a51)
+turn-by p o v x g r (malformed a52) = refuses (only-asked a52)
+turn-by p o v x g r (malformed a03) = refuses (only-asked a03)
+turn-by p o v x g r profile = works refl
+turn-by p o v x g r status = works refl
+turn-by p o v x g r (information {t = t} {i = i}) = turn-tested p (ReadTrackInformation t) (trackTests o (t .0) v i) a52 refl
+turn-by p o v x g r (indication {n = n}) = turn-heard p (v .ready) (eqb n 0)
+turn-by p o v x g r ready = asks
+turn-by p o v x g r (unread q n) = turn-worked p x (isPolled (o .immed) x) n
+
+-- ---- whether the drive was ready, as it was seen
+
+as-asked : (b : Bool) → b ≡ if b true false
+as-asked true = refl
+as-asked false = refl
+
+ready-good : (m : Method) (x : Op) (v : Seen) (r : Reading) → Reads x true r → see m x r v .ready ≡ if (asksReady x) true false
+ready-good m x v r (malformed a46) = refl
+ready-good m x v r (malformed a51) = refl
+ready-good m x v r (malformed a52) = refl
+ready-good m x v r (malformed a03) = refl
+ready-good m x v r profile = refl
+ready-good m x v r status = refl
+ready-good m x v r information = refl
+ready-good m x v r indication = refl
+ready-good m x v r ready = refl
+ready-good m x v r (unread q n) = as-asked (asksReady x)
+
+ready-failed : (m : Method) (x : Op) (v : Seen) (d : List ℕ) (b : Bool) → see m x (if b (readUnready d) (readFailed d)) v .ready ≡ if b false (isBusy d && v .ready)
+unfolding readUnready readFailed
+ready-failed m x v d true = go (isUnready d)
+  where
+    go : (b : Bool) → see m x (if b NotReady (Failed (senseOf d))) v .ready ≡ false
+    go true = refl
+    go false = refl
+ready-failed m x v d false = go (isBusy d)
+  where
+    go : (b : Bool) → see m x (if b Busy (Failed (senseOf d))) v .ready ≡ b && v .ready
+    go true = refl
+    go false = refl
+
+ready-after : (m : Method) (x : Op) (y : Reply) (v : Seen) → see m x (reading x y) v .ready ≡ if (asksReady x) (y .good) ((not (y .good) && isBusy (y .bytes)) && v .ready)
+ready-after m x y v = go (y .good)
+  where
+    go : (g : Bool) → see m x (if g (readGood x (y .bytes)) (failedBy x (y .bytes))) v .ready ≡ if (asksReady x) g ((not g && isBusy (y .bytes)) && v .ready)
+    go true = ready-good m x v (readGood x (y .bytes)) (reads-good x (y .bytes))
+    go false = ready-failed m x v (y .bytes) (asksReady x)
+
+was-ready : (m : Method) (es : List Exchange) → seen m es .ready ≡ wasReady es
+was-ready m [] = refl
+was-ready m (e ∷ es) =
+    ready-after m (e .command .op) (e .reply) (seen m es) ∙
+    ap (λ (b : Bool). if (asksReady (e .command .op)) (e .reply .good) ((not (e .reply .good) && isBusy (e .reply .bytes)) && b)) (was-ready m es)
+
+pub turn : (o : Order) (es : List Exchange) (x : Op) (y : Reply) → Turn (polling (o .immed) es) x (y .good) (polling (o .immed) (made o es x y ∷ es)) (judged o es (made o es x y))
+turn o es x y =
+    subst (λ (b : Bool). Turn (polling (o .immed) es) x (y .good) (pollingBy (polling (o .immed) es) (o .immed) b x (y .good) (reading x y)) (judged o es (made o es x y))) (was-ready (o .method) es)
+    (turn-by (polling (o .immed) es) o (seen (o .method) es) x (y .good) (reading x y) (reads x y))

@@ -69,11 +69,11 @@ wasReady (e ∷ es) = if (asksReady (e .command .op)) (e .reply .good) ((not (e 
 
 -- "After each such good reply the recorder sends 00h and then 03h ..
 abbrev pub begins : Bool → Exchange → Bool
-begins immed e = isPolled immed (e .command .op) && e .reply .good
+begins immed e = e .reply .good && isPolled immed (e .command .op)
 
 -- .. until 00h succeeds and the 03h after it reports progress 0"
 abbrev pub ends : List Exchange → Exchange → Bool
-ends es e = wasReady es && ofProgress false (λ n. eqb n 0) (read e)
+ends es e = ofProgress false (λ n. eqb n 0) (read e) && wasReady es
 
 -- a polling is under way
 abbrev pub polling : Bool → List Exchange → Bool
@@ -83,7 +83,7 @@ polling immed (e ∷ es) = if (begins immed e) true (if (ends es e) false (polli
 -- "the latest progress of a polling under way"; it is 0 before the first 03h
 abbrev pub progress : List Exchange → ℕ
 progress [] = 0
-progress (e ∷ es) = if (isClosing (e .command .op) && e .reply .good) 0 (ofProgress (progress es) (λ n. n) (read e))
+progress (e ∷ es) = if (e .reply .good && isClosing (e .command .op)) 0 (ofProgress (progress es) (λ n. n) (read e))
 
 -- ---- what was seen: all that the rules look at, where the next block goes in frames, and the latest progress, for the panel
 

@@ -4,7 +4,7 @@ use mathlib.Core.Path.{_≡_}
 use mathlib.Core.Logic.{_↔_}
 use mathlib.Core.Bool.{Bool, true, false, _||_}
 use mathlib.Core.List.{List, [], _∷_, _++_}
-use Prim.Native.Nat.{ℕ, _+_, _-_, _≤_, _<_, min}
+use Prim.Native.Nat.{ℕ, suc, _+_, _-_, _≤_, _<_, min}
 use lib.ListN.{length, getD}
 use Rattle.mmc.specs.Bytes.{if}
 use Rattle.mmc.specs.Refusals.{pass}
@@ -135,7 +135,7 @@ AllWell (e ∷ es) = (e .reply .good || asksReady (e .command .op) ≡ true) × 
 -- "the exact count excludes polls"
 abbrev pub unpolled : List Command → ℕ
 unpolled [] = 0
-unpolled (c ∷ cs) = if (isPoll (c .op)) (unpolled cs) (1 + unpolled cs)
+unpolled (c ∷ cs) = if (isPoll (c .op)) (unpolled cs) (suc (unpolled cs))
 
 -- the commands that were answered
 abbrev pub answered : List Exchange → List Command

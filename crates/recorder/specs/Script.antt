@@ -79,7 +79,7 @@ polls = TestUnitReady ∷ RequestSense ∷ []
 
 -- "With flag bit 2, Immed is set in 35h .. and 5Bh": these are polled
 abbrev pub isPolled : Bool → Op → Bool
-isPolled immed x = immed && isClosing x
+isPolled immed x = isClosing x && immed
 
 -- each element's part, one after another
 abbrev pub gather : {A B : Type 0} → (A → List B) → List A → List B

@@ -197,7 +197,7 @@ fn stands_in(m: Method, tracks: u8, length: u32, next: u32, place: Op, at: Frame
 fn stands_polled(immed: bool, place: Op, poll: Poll) -> bool
     ensures { λ r. ⌜ r ≡ standsPolled immed place poll ⌝ }
 {
-    let polled = both(immed, is_closing(place));
+    let polled = both(is_closing(place), immed);
     match poll {
         Poll::Off => true,
         Poll::Ready => polled,

@@ -165,8 +165,8 @@ fn judge_track(o: Order, track: u16, v: Seen, i: TrackInformation) -> Verdict
 fn is_polled(immed: bool, op: Op) -> bool
     ensures { λ r. ⌜ r ≡ isPolled immed op ⌝ }
 {
-    if immed {
-        return is_closing(op);
+    if is_closing(op) {
+        return immed;
     }
     false
 }
