@@ -16,7 +16,7 @@ use Rattle.mmc.specs.declared.order.Track.{Track}
 use Rattle.mmc.specs.declared.order.Method.{Method}
 use Rattle.mmc.specs.declared.order.Method.the-variants.{Tao, Sao}
 use Rattle.recorder.specs.declared.script.Op.{Op}
-use Rattle.recorder.specs.declared.script.Op.the-variants.{GetConfiguration, ReadDiscInformation, ReadTrackInformation, ModeSelect, SendCueSheet, Write, SynchronizeCache, CloseTrack, CloseSession}
+use Rattle.recorder.specs.declared.script.Op.the-variants.{GetConfiguration, ReadDiscInformation, ReadTrackInformation, ModeSelect, SendCueSheet, Write, SynchronizeCache, CloseTrack, CloseSession, TestUnitReady, RequestSense}
 use Rattle.recorder.specs.declared.places.Following.{Following}
 use Rattle.recorder.specs.declared.places.Following.the-variants.{Next as Then, Nothing}
 use Rattle.recorder.specs.Script.{write, portion, writesFor, writes, writesFrom, beforeTracks, trackBy, eachTrack, script}
@@ -58,7 +58,7 @@ abbrev synchronizedBy : Method → Order → ℕ → List Op
 synchronizedBy Tao o t = CloseTrack (record { 0 = t }) ∷ tracksFrom o t
 synchronizedBy Sao o t = []
 
--- behind an operation
+-- behind an operation of the script; a poll is none
 abbrev pub behind : Order → Op → List Op
 behind o GetConfiguration = ReadDiscInformation ∷ beforeTracks o (tracksFrom o 0)
 behind o ReadDiscInformation = beforeTracks o (tracksFrom o 0)
@@ -69,6 +69,8 @@ behind o (Write t f k) = piece o (t .0) (f .0 + k .0)
 behind o (SynchronizeCache t) = synchronizedBy (o .method) o (t .0)
 behind o (CloseTrack t) = tracksFrom o (t .0)
 behind o CloseSession = []
+behind o TestUnitReady = []
+behind o RequestSense = []
 
 abbrev pub onto : Order → Following → List Op
 onto o (Then x) = x ∷ behind o x
@@ -146,6 +148,8 @@ GoesOn m o (Write t f k) = Goes m o (t .0)
 GoesOn m o (SynchronizeCache t) = Unit {0}
 GoesOn m o (CloseTrack t) = m ≡ Tao
 GoesOn m o CloseSession = Unit {0}
+GoesOn m o TestUnitReady = Unit {0}
+GoesOn m o RequestSense = Unit {0}
 
 after-page : (m : Method) (o : Order) (t : ℕ) → length (tracksIn o) ≡ o .count → pageBy m (by o m) t ≡ onto (by o m) (afterIn (by o m) (ModeSelect (record { 0 = t })))
 after-page Tao o t n = piece-on Tao o t 0 n tt
@@ -184,6 +188,8 @@ goes-by m o (Write t f k) z g = piece-on m o (t .0) (f .0 + k .0) (z .all) g
 goes-by m o (SynchronizeCache t) z g = synchronized m o t
 goes-by m o (CloseTrack t) z g = closed m o t (z .all) g
 goes-by m o CloseSession z g = refl
+goes-by m o TestUnitReady z g = refl
+goes-by m o RequestSense z g = refl
 
 pub goes-on : (o : Order) (x : Op) → Sized o → GoesOn (o .method) o x → behind o x ≡ onto o (afterIn o x)
 goes-on o x z g = goes-by (o .method) o x z g

@@ -2,7 +2,7 @@
 -- refuses none.
 use mathlib.Core.Path.{_≡_, refl, sym, ap, subst, _∙_}
 use mathlib.Core.Bool.{Bool, true, false, not, cond, _&&_}
-use mathlib.Core.List.{List, []}
+use mathlib.Core.List.{List, [], _∷_}
 use Prim.Native.Nat.{ℕ, suc, _+_, _-_, _*_, _%_, _≤_, _<_}
 use native.Mathlib.Omega.{arith}
 use borrow.Author.Tests.{lt-ltb, le-leb, eq-eqb, leb-true, ltb-true, eqb-true}
@@ -24,24 +24,26 @@ use Rattle.mmc.specs.declared.order.Order.{Order}
 use Rattle.mmc.specs.declared.order.Method.{Method}
 use Rattle.mmc.specs.declared.order.Method.the-variants.{Tao, Sao}
 use Rattle.recorder.specs.declared.script.Op.{Op}
-use Rattle.recorder.specs.declared.script.Op.the-variants.{GetConfiguration, ReadDiscInformation, ReadTrackInformation, ModeSelect, SendCueSheet, Write, SynchronizeCache, CloseTrack, CloseSession}
+use Rattle.recorder.specs.declared.script.Op.the-variants.{GetConfiguration, ReadDiscInformation, ReadTrackInformation, ModeSelect, SendCueSheet, Write, SynchronizeCache, CloseTrack, CloseSession, TestUnitReady, RequestSense}
 use Rattle.recorder.specs.declared.places.Following.{Following}
 use Rattle.recorder.specs.declared.places.Following.the-variants.{Next as Then, Nothing}
 use Rattle.recorder.specs.declared.answers.Command.{Command}
 use Rattle.recorder.specs.declared.replies.Reading.{Reading}
 use Rattle.recorder.specs.declared.replies.Reading.the-variants.{Unread}
 use Rattle.recorder.specs.declared.exchanges.Seen.{Seen}
+use Rattle.recorder.specs.declared.job.Poll.{Poll}
+use Rattle.recorder.specs.declared.job.Poll.the-variants.{Off, Ready, Sense}
 use Rattle.recorder.specs.declared.job.Progress.{Progress}
 use Rattle.recorder.specs.declared.job.Recorder.{Recorder}
 use Rattle.recorder.specs.Answers.{issue, sheetBytes, madeBy, madeFor, cdbOf, bytesIn}
 use Rattle.recorder.specs.Replies.{reading}
-use Rattle.recorder.specs.Script.{write, portion, trackIn, stepwise}
+use Rattle.recorder.specs.Script.{isClosing, write, portion, trackIn, stepwise}
 use Rattle.recorder.specs.Exchanges.{see}
 use Rattle.recorder.specs.Rules.{lastFrame, Judgement, again, onward, refused, judge}
 use Rattle.recorder.specs.Places.{pieceEnded, beforeBlock, afterCloseTrack, opAfter, pieceOf, afterIn}
-use Rattle.recorder.specs.Job.{commandOf, Turn, goes, finish, halt, advanced, turnBy, turnOf, stepOf, inOrder, inTime, inPiece, isWrite, standsAt, standsIn, stands, unchanged, endedAt, opening, giveOf}
+use Rattle.recorder.specs.Job.{dueAt, dueIn, commandOf, Turn, goes, finish, halt, advanced, turnBy, turnOf, stepOf, inOrder, inTime, inPiece, isWrite, standsAt, standsIn, standsPolled, stands, unchanged, restsAt, opening, giveOf}
 use Rattle.recorder.proofs.Lists.{if-yes, false-true, both, clash}
-use Rattle.recorder.proofs.Turns.{Asks, a46, a51, a52, isAsking, Reads, busy, failed, malformed, profile, status, information, unread, reads}
+use Rattle.recorder.proofs.Turns.{Asks, a46, a51, a52, a03, isAsking, Reads, busy, not-ready, failed, malformed, profile, status, information, indication, ready, unread, reads}
 
 -- ---- what the makers need
 
@@ -55,6 +57,8 @@ Makes n (Write t f c) at = (at .0 ≤ lastFrame) × ((1 ≤ c .0) × (c .0 ≤ 1
 Makes n (SynchronizeCache t) at = Unit {0}
 Makes n (CloseTrack t) at = Unit {0}
 Makes n CloseSession at = Unit {0}
+Makes n TestUnitReady at = Unit {0}
+Makes n RequestSense at = Unit {0}
 
 -- the bytes of a command descriptor block are those that it is made of
 bytes-back : (bytes : List ℕ) → bytesIn (cdbOf bytes) ≡ bytes
@@ -87,17 +91,19 @@ sheet-made n h l =
     let z : 8 * (n + 3) % 8 ≡ 0 = omega arith in
     (_, if-yes _ _ (ap (λ (b : Bool). b && (leb k 816 && eqb (k % 8) 0)) (le-leb _ _ x) ∙ ap (λ (b : Bool). b && eqb (k % 8) 0) (le-leb _ _ y) ∙ eq-eqb _ _ z))
 
-pub made-by : (n : ℕ) (x : Op) (at : FrameCount) → Makes n x at → madeBy n (addressAt at) x ≡ pass (bytesIn (cdbOf (valueOr [] (madeBy n (addressAt at) x))))
+pub made-by : (immed : Bool) (n : ℕ) (x : Op) (at : FrameCount) → Makes n x at → madeBy immed n (addressAt at) x ≡ pass (bytesIn (cdbOf (valueOr [] (madeBy immed n (addressAt at) x))))
 unfolding closeTrackSession
-made-by n GetConfiguration at h = made-so _ _ refl
-made-by n ReadDiscInformation at h = made-so _ _ refl
-made-by n (ReadTrackInformation t) at h = made-so _ _ refl
-made-by n (ModeSelect t) at h = made-so _ _ refl
-made-by n SendCueSheet at h = let x = sheet-made n (h .0) (h .1) in made-so _ (x .0) (x .1)
-made-by n (Write t f c) at h = made-so _ _ (write-made at c (h .0) (h .1 .0) (h .1 .1))
-made-by n (SynchronizeCache t) at h = made-so _ _ refl
-made-by n (CloseTrack t) at h = made-so _ _ refl
-made-by n CloseSession at h = made-so _ _ refl
+made-by immed n GetConfiguration at h = made-so _ _ refl
+made-by immed n ReadDiscInformation at h = made-so _ _ refl
+made-by immed n (ReadTrackInformation t) at h = made-so _ _ refl
+made-by immed n (ModeSelect t) at h = made-so _ _ refl
+made-by immed n SendCueSheet at h = let x = sheet-made n (h .0) (h .1) in made-so _ (x .0) (x .1)
+made-by immed n (Write t f c) at h = made-so _ _ (write-made at c (h .0) (h .1 .0) (h .1 .1))
+made-by immed n (SynchronizeCache t) at h = made-so _ _ refl
+made-by immed n (CloseTrack t) at h = made-so _ _ refl
+made-by immed n CloseSession at h = made-so _ _ refl
+made-by immed n TestUnitReady at h = made-so _ _ refl
+made-by immed n RequestSense at h = made-so _ _ refl
 
 -- ---- a state that passes the test
 
@@ -129,6 +135,8 @@ own-by m n l k at (Write t f c) a b e =
 own-by m n l k at (SynchronizeCache t) a b e = tt
 own-by m n l k at (CloseTrack t) a b e = tt
 own-by m n l k at CloseSession a b e = tt
+own-by m n l k at TestUnitReady a b e = tt
+own-by m n l k at RequestSense a b e = tt
 
 -- a WRITE that begins in time, or what comes after a piece
 on-by : (m : Method) (n l k t f : ℕ) (at : FrameCount) → at .0 ≤ lastFrame → (m ≡ Sao → t < n → 0 < k) → Makes n (beforeBlock m n l k t f) at
@@ -152,13 +160,16 @@ asks-asking : {x : Op} → Asks x → isAsking x ≡ true
 asks-asking a46 = refl
 asks-asking a51 = refl
 asks-asking a52 = refl
+asks-asking a03 = refl
 
 pub not-read : (x : Op) (r : Reading) → isAsking x ≡ false → Reads x true r → r ≡ Unread
 not-read x r q (malformed a) = absurd (false-true (sym q ∙ asks-asking a))
 not-read x r q profile = absurd (false-true (sym q))
 not-read x r q status = absurd (false-true (sym q))
 not-read x r q information = absurd (false-true (sym q))
-not-read x r q (unread u) = refl
+not-read x r q indication = absurd (false-true (sym q))
+not-read x r q ready = refl
+not-read x r q (unread u n) = refl
 
 next-piece : (m : Method) (n k t : ℕ) → inPiece m n k t ≡ true → m ≡ Sao → t < n → 0 < k
 unfolding inPiece
@@ -203,6 +214,8 @@ module _ (n k : ℕ) (v : Seen) (a : 1 ≤ n) (b : n ≤ mostTracks) where
       go true = tt
       go false = tt
   on-unread m l CloseSession p e q = tt
+  on-unread m l TestUnitReady p e q = absurd (false-true e)
+  on-unread m l RequestSense p e q = absurd (false-true e)
 
   -- after an asking operation nothing is needed
   on-asking : (m : Method) (l : ℕ) (x : Op) (at : FrameCount) → isAsking x ≡ true → MakesThen n (opAfter m n l k x) at
@@ -215,11 +228,33 @@ module _ (n k : ℕ) (v : Seen) (a : 1 ≤ n) (b : n ≤ mostTracks) where
   on-asking m l (SynchronizeCache t) at q = absurd (false-true q)
   on-asking m l (CloseTrack t) at q = absurd (false-true q)
   on-asking m l CloseSession at q = absurd (false-true q)
+  on-asking m l TestUnitReady at q = absurd (false-true q)
+  on-asking m l RequestSense at q = tt
+
+  -- nor after a closing command, wherever the next block goes
+  on-closed : (m : Method) (l : ℕ) (x : Op) (at : FrameCount) → isClosing x ≡ true → MakesThen n (opAfter m n l k x) at
+  unfolding afterCloseTrack
+  on-closed m l GetConfiguration at q = absurd (false-true q)
+  on-closed m l ReadDiscInformation at q = absurd (false-true q)
+  on-closed m l (ReadTrackInformation t) at q = absurd (false-true q)
+  on-closed m l (ModeSelect t) at q = absurd (false-true q)
+  on-closed m l SendCueSheet at q = absurd (false-true q)
+  on-closed m l (Write t f c) at q = absurd (false-true q)
+  on-closed Tao l (SynchronizeCache t) at q = tt
+  on-closed Sao l (SynchronizeCache t) at q = tt
+  on-closed m l (CloseTrack t) at q = go (ltb (t .0) n)
+    where
+      go : (c : Bool) → Makes n (if c (ReadTrackInformation (record { 0 = suc (t .0) })) CloseSession) at
+      go true = tt
+      go false = tt
+  on-closed m l CloseSession at q = tt
+  on-closed m l TestUnitReady at q = absurd (false-true q)
+  on-closed m l RequestSense at q = absurd (false-true q)
 
 -- ---- a reply to such a state
 
 abbrev MakesTurn : ℕ → Turn → Type 0
-MakesTurn n (goes t) = Makes n (t .place) (t .seen .at)
+MakesTurn n (goes t) = Makes n (dueIn t) (t .seen .at)
 MakesTurn n finish = Unit {0}
 MakesTurn n (halt w) = Unit {0}
 
@@ -227,23 +262,20 @@ advanced-made : (n : ℕ) (f : Following) (u : Seen) → MakesThen n f (u .at) �
 advanced-made n (Then y) u h = h
 advanced-made n Nothing u h = tt
 
--- no failed reply leads onward
-failed-stays : (o : Order) (v : Seen) (x : Op) (g : Bool) (r : Reading) (xs : List Op) → Reads x g r → g ≡ false → judge o v x r ≡ onward xs → ⊥
-failed-stays o v x g r xs busy f q = clash (cc)
-failed-stays o v x g r xs failed f q = clash (cc)
-failed-stays o v x g r xs (malformed a) f q = false-true (sym f)
-failed-stays o v x g r xs profile f q = false-true (sym f)
-failed-stays o v x g r xs status f q = false-true (sym f)
-failed-stays o v x g r xs information f q = false-true (sym f)
-failed-stays o v x g r xs (unread u) f q = false-true (sym f)
+-- no failed reply leads onward, but to 00h
+failed-asks : (o : Order) (v : Seen) (x : Op) (g : Bool) (r : Reading) (xs : List Op) → Reads x g r → g ≡ false → judge o v x r ≡ onward xs → x ≡ TestUnitReady
+failed-asks o v x g r xs (busy n) f q = clash (cc)
+failed-asks o v x g r xs not-ready f q = refl
+failed-asks o v x g r xs failed f q = clash (cc)
+failed-asks o v x g r xs (malformed a) f q = absurd (false-true (sym f))
+failed-asks o v x g r xs profile f q = absurd (false-true (sym f))
+failed-asks o v x g r xs status f q = absurd (false-true (sym f))
+failed-asks o v x g r xs information f q = absurd (false-true (sym f))
+failed-asks o v x g r xs indication f q = absurd (false-true (sym f))
+failed-asks o v x g r xs ready f q = refl
+failed-asks o v x g r xs (unread u n) f q = absurd (false-true (sym f))
 
-module _ (o : Order) (s : Progress) (e : stands o s ≡ true) where
-  abbrev x : Op
-  x = s .place
-
-  abbrev v : Seen
-  v = s .seen
-
+module _ (o : Order) (x : Op) (v : Seen) (e : standsIn (o .method) (o .count) (pieceOf o (trackIn x)) (pieceOf o (suc (trackIn x))) (v .at) x ≡ true) where
   standing : (1 ≤ o .count) × ((o .count ≤ mostTracks) × (standsAt (o .method) (o .count) (pieceOf o (trackIn x)) (pieceOf o (suc (trackIn x))) (v .at) x ≡ true))
   unfolding standsIn
   standing =
@@ -264,36 +296,54 @@ module _ (o : Order) (s : Progress) (e : stands o s ≡ true) where
           subst (λ (k : Reading). MakesThen (o .count) (afterIn o x) (see (o .method) x k v .at)) (sym (not-read x r q w))
           (on-unread (o .count) _ v (standing .0) (standing .1 .0) (o .method) _ x pause-long (standing .1 .1) q)
 
-  turn-made : (g : Bool) (r : Reading) (j : Judgement) → Reads x g r → judge o v x r ≡ j → MakesTurn (o .count) (turnBy j o s r)
-  turn-made g r again w q = own-by (o .method) (o .count) _ _ (v .at) x (standing .0) (standing .1 .0) (standing .1 .1)
-  turn-made g r (refused y) w q = tt
-  turn-made true r (onward xs) w q = advanced-made (o .count) (afterIn o x) (see (o .method) x r v) (next-made r w)
-  turn-made false r (onward xs) w q = absurd (failed-stays o v x false r xs w refl q)
+  -- the job has no place at 00h
+  no-place : x ≡ TestUnitReady → ⊥
+  no-place p = false-true (subst (λ (y : Op). standsAt (o .method) (o .count) (pieceOf o (trackIn x)) (pieceOf o (suc (trackIn x))) (v .at) y ≡ true) p (standing .1 .1))
+
+  turn-made : (p : Poll) → standsPolled (o .immed) x p ≡ true → (g : Bool) (r : Reading) (j : Judgement) → Reads (dueAt x p) g r → judge o v (dueAt x p) r ≡ j → MakesTurn (o .count) (turnBy j o (record { place = x; poll = p; seen = v }) r)
+  turn-made Off c g r again w q = own-by (o .method) (o .count) _ _ (v .at) x (standing .0) (standing .1 .0) (standing .1 .1)
+  turn-made Off c true r (onward []) w q = advanced-made (o .count) (afterIn o x) (see (o .method) x r v) (next-made r w)
+  turn-made Off c false r (onward []) w q = absurd (no-place (failed-asks o v x false r [] w refl q))
+  turn-made Off c g r (onward (y ∷ ys)) w q = tt
+  turn-made Off c g r (refused y) w q = tt
+  turn-made Ready c g r again w q = tt
+  turn-made Ready c g r (onward []) w q = tt
+  turn-made Ready c g r (onward (y ∷ ys)) w q = tt
+  turn-made Ready c g r (refused y) w q = tt
+  turn-made Sense c g r again w q = tt
+  turn-made Sense c g r (onward []) w q =
+      advanced-made (o .count) (afterIn o x) (see (o .method) RequestSense r v) (on-closed (o .count) _ v (standing .0) (standing .1 .0) (o .method) _ x _ (both (isClosing x) _ c .0))
+  turn-made Sense c g r (onward (y ∷ ys)) w q = tt
+  turn-made Sense c g r (refused y) w q = tt
 
 -- the command that is given has its maker's bytes
-step-made : (o : Order) (s : Progress) (n : ℕ) (t : Turn) → MakesTurn (o .count) t → (c : Command) → stepOf o s n t .answer ≡ issue c → madeFor (o .count) c ≡ pass (bytesIn (stepOf o s n t .cdb))
+step-made : (o : Order) (s : Progress) (n : ℕ) (t : Turn) → MakesTurn (o .count) t → (c : Command) → stepOf o s n t .answer ≡ issue c → madeFor (o .immed) (o .count) c ≡ pass (bytesIn (stepOf o s n t .cdb))
 step-made o s n (goes u) h c e =
     let q : commandOf u ≡ c = cc in
-    ap (madeFor (o .count)) (sym q) ∙ made-by (o .count) (u .place) (u .seen .at) h
+    ap (madeFor (o .immed) (o .count)) (sym q) ∙ made-by (o .immed) (o .count) (dueIn u) (u .seen .at) h
 step-made o s n finish h c e = clash (cc)
 step-made o s n (halt w) h c e = clash (cc)
 
-pub give-made : (r : Recorder) (good : Bool) (d : List ℕ) (c : Command) → giveOf r good d .answer ≡ issue c → madeFor (r .order .count) c ≡ pass (bytesIn (giveOf r good d .cdb))
+pub give-made : (r : Recorder) (good : Bool) (d : List ℕ) (c : Command) → giveOf r good d .answer ≡ issue c → madeFor (r .order .immed) (r .order .count) c ≡ pass (bytesIn (giveOf r good d .cdb))
 unfolding giveOf
-give-made r good d c = go (endedAt (r .phase)) (stands (r .order) (r .progress)) refl
+give-made r good d c = go (restsAt (r .phase)) (stands (r .order) (r .progress)) refl
   where
-    t : Turn
-    t = turnOf (r .order) (r .progress) (reading (r .progress .place) (replyOf good d))
+    s : Progress
+    s = r .progress
 
-    go : (a b : Bool) → stands (r .order) (r .progress) ≡ b →
-        if a (unchanged r 13) (if b (stepOf (r .order) (r .progress) (r .count) t) (unchanged r 3)) .answer ≡ issue c →
-        madeFor (r .order .count) c ≡ pass (bytesIn (if a (unchanged r 13) (if b (stepOf (r .order) (r .progress) (r .count) t) (unchanged r 3)) .cdb))
+    t : Turn
+    t = turnOf (r .order) s (reading (dueIn s) (replyOf good d))
+
+    go : (a b : Bool) → stands (r .order) s ≡ b →
+        if a (unchanged r 13) (if b (stepOf (r .order) s (r .count) t) (unchanged r 3)) .answer ≡ issue c →
+        madeFor (r .order .immed) (r .order .count) c ≡ pass (bytesIn (if a (unchanged r 13) (if b (stepOf (r .order) s (r .count) t) (unchanged r 3)) .cdb))
     go true b q e = clash (cc)
     go false false q e = clash (cc)
     go false true q e =
-        step-made (r .order) (r .progress) (r .count) t
-        (turn-made (r .order) (r .progress) q good (reading (r .progress .place) (replyOf good d)) _ (reads (r .progress .place) (replyOf good d)) refl) c e
+        let p = both (standsPolled (r .order .immed) (s .place) (s .poll)) _ q in
+        step-made (r .order) s (r .count) t
+        (turn-made (r .order) (s .place) (s .seen) (p .1) (s .poll) (p .0) good (reading (dueIn s) (replyOf good d)) _ (reads (dueIn s) (replyOf good d)) refl) c e
 
 -- and the first one
-pub take-made : (o : Order) (n : ℕ) (c : Command) → stepOf o opening n (goes opening) .answer ≡ issue c → madeFor (o .count) c ≡ pass (bytesIn (stepOf o opening n (goes opening) .cdb))
-take-made o n c e = let q : commandOf opening ≡ c = cc in ap (madeFor (o .count)) (sym q) ∙ made-by (o .count) GetConfiguration (record { 0 = 0 }) tt
+pub take-made : (o : Order) (n : ℕ) (c : Command) → stepOf o opening n (goes opening) .answer ≡ issue c → madeFor (o .immed) (o .count) c ≡ pass (bytesIn (stepOf o opening n (goes opening) .cdb))
+take-made o n c e = let q : commandOf opening ≡ c = cc in ap (madeFor (o .immed) (o .count)) (sym q) ∙ made-by (o .immed) (o .count) GetConfiguration (record { 0 = 0 }) tt

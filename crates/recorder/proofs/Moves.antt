@@ -1,6 +1,6 @@
 -- One reply to the operation that is due: the job goes where the rules go.
 use mathlib.Core.Path.{_≡_, refl, sym, ap, subst, _∙_}
-use mathlib.Core.Bool.{Bool, true, false}
+use mathlib.Core.Bool.{Bool, true, false, not, _&&_}
 use mathlib.Core.List.{List, [], _∷_}
 use Prim.Native.Nat.{ℕ, _≤_}
 use native.Mathlib.Omega.{arith}
@@ -10,33 +10,57 @@ use Rattle.mmc.specs.declared.order.Order.{Order}
 use Rattle.mmc.specs.declared.order.Method.{Method}
 use Rattle.mmc.specs.declared.order.Method.the-variants.{Tao, Sao}
 use Rattle.recorder.specs.declared.script.Op.{Op}
-use Rattle.recorder.specs.declared.script.Op.the-variants.{GetConfiguration, ReadDiscInformation, ReadTrackInformation, ModeSelect, SendCueSheet, Write, SynchronizeCache, CloseTrack, CloseSession}
+use Rattle.recorder.specs.declared.script.Op.the-variants.{GetConfiguration, ReadDiscInformation, ReadTrackInformation, ModeSelect, SendCueSheet, Write, SynchronizeCache, CloseTrack, CloseSession, TestUnitReady, RequestSense}
 use Rattle.recorder.specs.declared.places.Following.{Following}
 use Rattle.recorder.specs.declared.places.Following.the-variants.{Next as Then, Nothing}
 use Rattle.recorder.specs.declared.replies.Reading.{Reading}
+use Rattle.recorder.specs.declared.replies.Reading.the-variants.{NotReady, ProgressIndication, Unread}
 use Rattle.recorder.specs.declared.exchanges.Seen.{Seen}
+use Rattle.recorder.specs.declared.job.Poll.{Poll}
+use Rattle.recorder.specs.declared.job.Poll.the-variants.{Off, Ready, Sense}
 use Rattle.recorder.specs.declared.job.Progress.{Progress}
 use Rattle.recorder.specs.Answers.{Why, because}
 use Rattle.recorder.specs.Replies.{reading}
+use Rattle.recorder.specs.Script.{isClosing, isPolled}
 use Rattle.recorder.specs.Exchanges.{Exchange, Named, see, seen, name, named}
-use Rattle.recorder.specs.Rules.{Judgement, onward, refused, Test, tested, trackTests, judge, move, left, none, found, refusedBy, firstRefused}
+use Rattle.recorder.specs.Rules.{Judgement, onward, refused, Test, tested, trackTests, pollsIf, isLast, judge, move, left, none, found, refusedBy, firstRefused}
 use Rattle.recorder.specs.Places.{afterIn}
-use Rattle.recorder.specs.Job.{goes, finish, halt, advanced, turnBy, turnOf}
-use Rattle.recorder.proofs.Lists.{none-found, clash}
-use Rattle.recorder.proofs.Turns.{made, Played, nothing, then, Reads, busy, failed, malformed, profile, status, information, unread, reads}
+use Rattle.recorder.specs.Job.{dueAt, goes, finish, halt, advanced, turnBy, turnOf}
+use Rattle.recorder.proofs.Lists.{none-found, false-true, both, clash}
+use Rattle.recorder.proofs.Turns.{made, Played, nothing, then, a03, Reads, busy, not-ready, failed, malformed, profile, status, information, indication, ready, unread, reads}
 use Rattle.recorder.proofs.Rulings.{unrefused-last}
 use Rattle.recorder.proofs.Behind.{Sized, behind, onto, Goes, GoesOn, goes-on}
-use Rattle.recorder.proofs.Standing.{long-at, InSession, Standing, StandingThen, stood}
+use Rattle.recorder.proofs.Standing.{long-at, InSession, Standing, StandingThen, standing-closing, stood, stood-polled}
 
--- the job at an operation
-abbrev pub at : Op → Seen → Progress
-at x v = record { place = x; seen = v }
+-- the job at an operation and its polling
+abbrev pub at : Op → Poll → Seen → Progress
+at x p v = record { place = x; poll = p; seen = v }
+
+-- behind what is due, its polls or the operation itself
+abbrev pub behindAt : Order → Op → Poll → List Op
+behindAt o x Off = behind o x
+behindAt o x Ready = RequestSense ∷ behind o x
+behindAt o x Sense = behind o x
+
+abbrev pub planAt : Order → Op → Poll → List Op
+planAt o x p = dueAt x p ∷ behindAt o x p
+
+-- only what closes is polled
+abbrev pub PolledAt : Order → Op → Poll → Type 0
+PolledAt o x Off = Unit {0}
+PolledAt o x Ready = isPolled (o .immed) x ≡ true
+PolledAt o x Sense = isPolled (o .immed) x ≡ true
+
+-- how the job stands
+pub record Stood (o : Order) (x : Op) (p : Poll) (v : Seen) (n : Named) : Type 0 where
+  pub standing : Standing (o .method) o x v n
+  pub polled-at : PolledAt o x p
 
 -- where it goes after a reply that says r, and what the plan and the tests say then
-pub data Moved (o : Order) (x : Op) (v : Seen) (n : Named) (r : Reading) : Type 0 where
-  on-to : (z : Op) → turnOf o (at x v) r ≡ goes (at z (see (o .method) x r v)) → refusedBy (judge o v x r) ≡ none → move (judge o v x r) (x ∷ behind o x) ≡ z ∷ behind o z → Standing (o .method) o z (see (o .method) x r v) (name x r n) → Moved o x v n r
-  stops : (w : Why) → turnOf o (at x v) r ≡ halt w → refusedBy (judge o v x r) ≡ found w → Moved o x v n r
-  ends : turnOf o (at x v) r ≡ finish → refusedBy (judge o v x r) ≡ none → move (judge o v x r) (x ∷ behind o x) ≡ [] → Moved o x v n r
+pub data Moved (o : Order) (x : Op) (p : Poll) (v : Seen) (n : Named) (r : Reading) : Type 0 where
+  on-to : (z : Op) (q : Poll) → turnOf o (at x p v) r ≡ goes (at z q (see (o .method) (dueAt x p) r v)) → refusedBy (judge o v (dueAt x p) r) ≡ none → move (judge o v (dueAt x p) r) (planAt o x p) ≡ planAt o z q → Stood o z q (see (o .method) (dueAt x p) r v) (name (dueAt x p) r n) → Moved o x p v n r
+  stops : (w : Why) → turnOf o (at x p v) r ≡ halt w → refusedBy (judge o v (dueAt x p) r) ≡ found w → Moved o x p v n r
+  ends : turnOf o (at x p v) r ≡ finish → refusedBy (judge o v (dueAt x p) r) ≡ none → move (judge o v (dueAt x p) r) (planAt o x p) ≡ [] → Moved o x p v n r
 
 -- in SAO the piece at hand is the order's, and the next track is not empty
 goes-sao : (o : Order) (t : ℕ) → Sized o → InSession o → t ≤ o .count → Goes Sao o t
@@ -55,6 +79,8 @@ standing-goes m o (SynchronizeCache t) v n z s = tt
 standing-goes Tao o (CloseTrack t) v n z s = refl
 standing-goes Sao o (CloseTrack t) v n z s = absurd s
 standing-goes m o CloseSession v n z s = tt
+standing-goes m o TestUnitReady v n z s = absurd s
+standing-goes m o RequestSense v n z s = absurd s
 
 -- the tests of a 52h pass, or refuse
 tested-by : (P : Judgement → Type 0) (ts : List Test) → P (onward []) → ((k : ℕ) → P (refused (because k))) → P (tested ts)
@@ -65,64 +91,84 @@ tested-by P (t ∷ ts) p q = go (t .applies) (tested-by P ts p q)
     go true h = q (t .number)
     go false h = h
 
-module _ (o : Order) (x : Op) (v : Seen) (n : Named) (z : Sized o) (s : Standing (o .method) o x v n) where
-  -- a good reply that passes
-  passes : (r : Reading) → Reads x true r → judge o v x r ≡ onward [] → Moved o x v n r
-  passes r w j =
-      go (afterIn o x) refl (stood o x r v n z s w (ap refusedBy j))
+-- the plan goes on from an operation to what comes after it
+module _ (o : Order) (x : Op) (p : Poll) (v : Seen) (n : Named) (z : Sized o) (s : Standing (o .method) o x v n) (r : Reading) where
+  abbrev w : Seen
+  w = see (o .method) (dueAt x p) r v
+
+  abbrev k : Named
+  k = name (dueAt x p) r n
+
+  onward-to : refusedBy (judge o v (dueAt x p) r) ≡ none → turnOf o (at x p v) r ≡ advanced (afterIn o x) w → move (judge o v (dueAt x p) r) (planAt o x p) ≡ behind o x → StandingThen (o .method) o (afterIn o x) w k → Moved o x p v n r
+  onward-to u t m h = go (afterIn o x) refl h
     where
-      turns : (f : Following) → afterIn o x ≡ f → turnOf o (at x v) r ≡ advanced f (see (o .method) x r v)
-      turns f e = ap (λ (k : Judgement). turnBy k o (at x v) r) j ∙ ap (λ (g : Following). advanced g (see (o .method) x r v)) e
+      turns : (f : Following) → afterIn o x ≡ f → turnOf o (at x p v) r ≡ advanced f w
+      turns f e = t ∙ ap (λ (g : Following). advanced g w) e
 
-      moves : (f : Following) → afterIn o x ≡ f → move (judge o v x r) (x ∷ behind o x) ≡ onto o f
-      moves f e = ap (λ (k : Judgement). move k (x ∷ behind o x)) j ∙ goes-on o x z (standing-goes (o .method) o x v n z s) ∙ ap (onto o) e
+      moves : (f : Following) → afterIn o x ≡ f → move (judge o v (dueAt x p) r) (planAt o x p) ≡ onto o f
+      moves f e = m ∙ goes-on o x z (standing-goes (o .method) o x v n z s) ∙ ap (onto o) e
 
-      go : (f : Following) → afterIn o x ≡ f → StandingThen (o .method) o (afterIn o x) (see (o .method) x r v) (name x r n) → Moved o x v n r
-      go (Then y) e h = on-to y (turns (Then y) e) (ap refusedBy j) (moves (Then y) e) (subst (λ (f : Following). StandingThen (o .method) o f (see (o .method) x r v) (name x r n)) e h)
-      go Nothing e h = ends (turns Nothing e) (ap refusedBy j) (moves Nothing e)
+      go : (f : Following) → afterIn o x ≡ f → StandingThen (o .method) o (afterIn o x) w k → Moved o x p v n r
+      go (Then y) e h = on-to y Off (turns (Then y) e) u (moves (Then y) e) (record { standing = subst (λ (f : Following). StandingThen (o .method) o f w k) e h; polled-at = tt })
+      go Nothing e h = ends (turns Nothing e) u (moves Nothing e)
 
-  refuses : (r : Reading) (w : Why) → judge o v x r ≡ refused w → Moved o x v n r
-  refuses r w j = stops w (ap (λ (k : Judgement). turnBy k o (at x v) r) j) (ap refusedBy j)
+  refuses : (y : Why) → judge o v (dueAt x p) r ≡ refused y → Moved o x p v n r
+  refuses y j = stops y (ap (λ (k : Judgement). turnBy k o (at x p v) r) j) (ap refusedBy j)
 
-moved-by : (o : Order) (x : Op) (v : Seen) (n : Named) → Sized o → Standing (o .method) o x v n → (g : Bool) (r : Reading) → Reads x g r → Moved o x v n r
-moved-by o x v n z s g r busy = on-to x refl refl refl s
-moved-by o x v n z s g r failed = refuses o x v n z s r _ refl
-moved-by o x v n z s g r (malformed a) = refuses o x v n z s r _ refl
-moved-by o x v n z s g r profile = passes o x v n z s r profile refl
-moved-by o x v n z s g r status = passes o x v n z s r status refl
-moved-by o x v n z s g r (information {t = t} {i = i}) =
-    tested-by (λ (j : Judgement). judge o v x r ≡ j → Moved o x v n r) (trackTests o (t .0) v i) (passes o x v n z s r information) (λ k. refuses o x v n z s r (because k)) refl
-moved-by o x v n z s g r (unread q) = passes o x v n z s r (unread q) refl
+-- a good reply that passes
+passes : (o : Order) (x : Op) (v : Seen) (n : Named) → Sized o → Standing (o .method) o x v n → (r : Reading) → Reads x true r → judge o v x r ≡ onward [] → Moved o x Off v n r
+passes o x v n z s r w j =
+    onward-to o x Off v n z s r (ap refusedBy j) (ap (λ (k : Judgement). turnBy k o (at x Off v) r) j) (ap (λ (k : Judgement). move k (x ∷ behind o x)) j) (stood o x r v n z s w (ap refusedBy j))
+
+-- one that is not read, by whether its operation is polled
+worked : (o : Order) (x : Op) (v : Seen) (n : Named) → Sized o → Standing (o .method) o x v n → Reads x true Unread → (b : Bool) → isPolled (o .immed) x ≡ b → Moved o x Off v n Unread
+worked o x v n z s w true q =
+    on-to x Ready (ap (λ (b : Bool). turnBy (pollsIf b) o (at x Off v) Unread) q) refl (ap (λ (b : Bool). move (pollsIf b) (x ∷ behind o x)) q)
+    (record { standing = standing-closing (o .method) o x v _ n n s (both (isClosing x) _ q .0); polled-at = q })
+worked o x v n z s w false q = passes o x v n z s Unread w (ap pollsIf q)
+
+moved-off : (o : Order) (x : Op) (v : Seen) (n : Named) → Sized o → Standing (o .method) o x v n → (g : Bool) (r : Reading) → Reads x g r → Moved o x Off v n r
+moved-off o x v n z s g r (busy i) = on-to x Off refl refl refl (record { standing = s; polled-at = tt })
+moved-off o x v n z s g r not-ready = absurd s
+moved-off o x v n z s g r failed = refuses o x Off v n z s r _ refl
+moved-off o x v n z s g r (malformed a) = refuses o x Off v n z s r _ refl
+moved-off o x v n z s g r profile = passes o x v n z s r profile refl
+moved-off o x v n z s g r status = passes o x v n z s r status refl
+moved-off o x v n z s g r (information {t = t} {i = i}) =
+    tested-by (λ (j : Judgement). judge o v x r ≡ j → Moved o x Off v n r) (trackTests o (t .0) v i) (passes o x v n z s r information) (λ k. refuses o x Off v n z s r (because k)) refl
+moved-off o x v n z s g r indication = absurd s
+moved-off o x v n z s g r ready = absurd s
+moved-off o x v n z s g r (unread q i) = worked o x v n z s (unread q i) (isPolled (o .immed) x) refl
+
+-- a reply to 00h
+moved-ready : (o : Order) (x : Op) (v : Seen) (n : Named) → Sized o → Standing (o .method) o x v n → isPolled (o .immed) x ≡ true → (g : Bool) (r : Reading) → Reads TestUnitReady g r → Moved o x Ready v n r
+moved-ready o x v n z s c g r (busy i) = absurd (false-true (sym i))
+moved-ready o x v n z s c g r not-ready = on-to x Sense refl refl refl (record { standing = standing-closing (o .method) o x v _ n n s (both (isClosing x) _ c .0); polled-at = c })
+moved-ready o x v n z s c g r failed = refuses o x Ready v n z s r _ refl
+moved-ready o x v n z s c g r ready = on-to x Sense refl refl refl (record { standing = standing-closing (o .method) o x v _ n n s (both (isClosing x) _ c .0); polled-at = c })
+moved-ready o x v n z s c g r (unread q i) = absurd (false-true (sym i))
+
+-- a reply to 03h, by whether the round was the last
+heard : (o : Order) (x : Op) (v : Seen) (n : Named) → Sized o → Standing (o .method) o x v n → isPolled (o .immed) x ≡ true → (m : ℕ) (b : Bool) → isLast (v .ready) m ≡ b → Moved o x Sense v n (ProgressIndication m)
+heard o x v n z s c m true q =
+    onward-to o x Sense v n z s (ProgressIndication m) refl (ap (λ (b : Bool). turnBy (pollsIf (not b)) o (at x Sense v) (ProgressIndication m)) q) (ap (λ (b : Bool). move (pollsIf (not b)) (RequestSense ∷ behind o x)) q)
+    (stood-polled o x v _ n n s (both (isClosing x) _ c .0))
+heard o x v n z s c m false q =
+    on-to x Ready (ap (λ (b : Bool). turnBy (pollsIf (not b)) o (at x Sense v) (ProgressIndication m)) q) refl (ap (λ (b : Bool). move (pollsIf (not b)) (RequestSense ∷ behind o x)) q)
+    (record { standing = standing-closing (o .method) o x v _ n n s (both (isClosing x) _ c .0); polled-at = c })
+
+moved-sense : (o : Order) (x : Op) (v : Seen) (n : Named) → Sized o → Standing (o .method) o x v n → isPolled (o .immed) x ≡ true → (g : Bool) (r : Reading) → Reads RequestSense g r → Moved o x Sense v n r
+moved-sense o x v n z s c g r (busy i) = on-to x Sense refl refl refl (record { standing = s; polled-at = c })
+moved-sense o x v n z s c g r failed = refuses o x Sense v n z s r _ refl
+moved-sense o x v n z s c g r (malformed a) = refuses o x Sense v n z s r _ refl
+moved-sense o x v n z s c g r (indication {n = m}) = heard o x v n z s c m (isLast (v .ready) m) refl
+moved-sense o x v n z s c g r (unread q i) = absurd (false-true (sym q))
+
+moved-by : (o : Order) (x : Op) (p : Poll) (v : Seen) (n : Named) → Sized o → Standing (o .method) o x v n → PolledAt o x p → (g : Bool) (r : Reading) → Reads (dueAt x p) g r → Moved o x p v n r
+moved-by o x Off v n z s c g r w = moved-off o x v n z s g r w
+moved-by o x Ready v n z s c g r w = moved-ready o x v n z s c g r w
+moved-by o x Sense v n z s c g r w = moved-sense o x v n z s c g r w
 
 -- any reply
-pub moved : (o : Order) (x : Op) (v : Seen) (n : Named) → Sized o → Standing (o .method) o x v n → (y : Reply) → Moved o x v n (reading x y)
-moved o x v n z s y = moved-by o x v n z s (y .good) (reading x y) (reads x y)
-
--- ---- what is due: an operation that stands so, behind which the rest of the script comes; or nothing
-
-pub data Due (o : Order) (l : List Op) (v : Seen) (n : Named) : Type 0 where
-  waits : (x : Op) → l ≡ x ∷ behind o x → Standing (o .method) o x v n → Due o l v n
-  finished : l ≡ [] → Due o l v n
-
-due-next : (o : Order) (x : Op) (l : List Op) (v : Seen) (n : Named) (r : Reading) → l ≡ x ∷ behind o x → Moved o x v n r → refusedBy (judge o v x r) ≡ none → Due o (move (judge o v x r) l) (see (o .method) x r v) (name x r n)
-due-next o x l v n r e (on-to z t j m s) u = waits z (ap (move (judge o v x r)) e ∙ m) s
-due-next o x l v n r e (stops w t j) u = absurd (none-found w (sym u ∙ j))
-due-next o x l v n r e (ends t j m) u = finished (ap (move (judge o v x r)) e ∙ m)
-
--- the operation that was answered is the one that was due
-same-head : (o : Order) (x y : Op) (l m : List Op) → m ≡ x ∷ l → m ≡ y ∷ behind o y → x ≡ y
-same-head o x y l m p q = cc
-
-pub due : (o : Order) (es : List Exchange) → Sized o → Played o es → firstRefused o es ≡ none → Due o (left o es) (seen (o .method) es) (named es)
-due o es z nothing u = waits GetConfiguration refl refl
-due o es z (then {es = before} {x = x} {l = l} p u e y) w = go (due o before z p u)
-  where
-    go : Due o (left o before) (seen (o .method) before) (named before) → Due o (left o (made o before x y ∷ before)) (seen (o .method) (made o before x y ∷ before)) (named (made o before x y ∷ before))
-    go (waits a q s) = by-op a q s (same-head o x a l (left o before) e q)
-      where
-        by-op : (a : Op) → left o before ≡ a ∷ behind o a → Standing (o .method) o a (seen (o .method) before) (named before) → x ≡ a → Due o (left o (made o before x y ∷ before)) (seen (o .method) (made o before x y ∷ before)) (named (made o before x y ∷ before))
-        by-op a q s h =
-            let k : Standing (o .method) o x (seen (o .method) before) (named before) = subst (λ (b : Op). Standing (o .method) o b (seen (o .method) before) (named before)) (sym h) s in
-            let f : left o before ≡ x ∷ behind o x = subst (λ (b : Op). left o before ≡ b ∷ behind o b) (sym h) q in
-            due-next o x (left o before) (seen (o .method) before) (named before) (reading x y) f (moved o x (seen (o .method) before) (named before) z k y) (unrefused-last o before (made o before x y) u w)
-    go (finished q) = clash (cc (sym e ∙ q))
+pub moved : (o : Order) (x : Op) (p : Poll) (v : Seen) (n : Named) → Sized o → Stood o x p v n → (y : Reply) → Moved o x p v n (reading (dueAt x p) y)
+moved o x p v n z s y = moved-by o x p v n z (s .standing) (s .polled-at) (y .good) (reading (dueAt x p) y) (reads (dueAt x p) y)

@@ -16,19 +16,19 @@ use Rattle.mmc.specs.declared.order.Track.{Track}
 use Rattle.mmc.specs.declared.order.Method.{Method}
 use Rattle.mmc.specs.declared.order.Method.the-variants.{Tao, Sao}
 use Rattle.recorder.specs.declared.script.Op.{Op}
-use Rattle.recorder.specs.declared.script.Op.the-variants.{GetConfiguration, ReadDiscInformation, ReadTrackInformation, ModeSelect, SendCueSheet, Write, SynchronizeCache, CloseTrack, CloseSession}
+use Rattle.recorder.specs.declared.script.Op.the-variants.{GetConfiguration, ReadDiscInformation, ReadTrackInformation, ModeSelect, SendCueSheet, Write, SynchronizeCache, CloseTrack, CloseSession, TestUnitReady, RequestSense}
 use Rattle.recorder.specs.declared.places.Following.{Following}
 use Rattle.recorder.specs.declared.places.Following.the-variants.{Next as Then, Nothing}
 use Rattle.recorder.specs.declared.replies.TrackInformation.{TrackInformation}
 use Rattle.recorder.specs.declared.replies.Reading.{Reading}
 use Rattle.recorder.specs.declared.replies.Reading.the-variants.{Unread}
 use Rattle.recorder.specs.declared.exchanges.Seen.{Seen}
-use Rattle.recorder.specs.Script.{write, portion}
+use Rattle.recorder.specs.Script.{isClosing, write, portion}
 use Rattle.recorder.specs.Exchanges.{Named, see, name}
 use Rattle.recorder.specs.Rules.{mixedOrKept, still, leadOut, lastFrame, fits, trackTests, judge, none, refusedBy}
 use Rattle.recorder.specs.Places.{pieceEnded, beforeBlock, afterCloseTrack, pieceOf, afterIn}
 use Rattle.recorder.proofs.Lists.{none-found, false-true, both, passed-clear}
-use Rattle.recorder.proofs.Turns.{isAsking, Reads, malformed, profile, status, information, unread}
+use Rattle.recorder.proofs.Turns.{isAsking, Reads, malformed, profile, status, information, indication, ready, unread}
 use Rattle.recorder.proofs.Scripts.{by}
 use Rattle.recorder.proofs.Apart.{Passed, passed}
 use Rattle.recorder.proofs.Behind.{Sized, track-length}
@@ -100,6 +100,8 @@ Standing Tao o (CloseTrack t) v n = InOrder o (t .0)
 Standing Sao o (CloseTrack t) v n = ⊥
 Standing Tao o CloseSession v n = Unit {0}
 Standing Sao o CloseSession v n = ⊥
+Standing m o TestUnitReady v n = ⊥
+Standing m o RequestSense v n = ⊥
 
 abbrev pub StandingThen : Method → Order → Following → Seen → Named → Type 0
 StandingThen m o (Then x) v n = Standing m o x v n
@@ -173,26 +175,57 @@ first-track : (m : Method) (o : Order) (v : Seen) (n : Named) → Sized o → v 
 first-track Tao o v n z s = record { one = omega arith; few = z .some }
 first-track Sao o v n z s = (refl, s)
 
+-- where a closing command stands, and what comes after it, hangs on nothing that is seen or named: polls may come in between
+pub standing-closing : (m : Method) (o : Order) (x : Op) (v w : Seen) (n k : Named) → Standing m o x v n → isClosing x ≡ true → Standing m o x w k
+standing-closing m o GetConfiguration v w n k s c = absurd (false-true c)
+standing-closing m o ReadDiscInformation v w n k s c = absurd (false-true c)
+standing-closing m o (ReadTrackInformation t) v w n k s c = absurd (false-true c)
+standing-closing m o (ModeSelect t) v w n k s c = absurd (false-true c)
+standing-closing m o SendCueSheet v w n k s c = absurd (false-true c)
+standing-closing m o (Write t f d) v w n k s c = absurd (false-true c)
+standing-closing m o (SynchronizeCache t) v w n k s c = s
+standing-closing Tao o (CloseTrack t) v w n k s c = s
+standing-closing Sao o (CloseTrack t) v w n k s c = absurd s
+standing-closing Tao o CloseSession v w n k s c = tt
+standing-closing Sao o CloseSession v w n k s c = absurd s
+standing-closing m o TestUnitReady v w n k s c = absurd s
+standing-closing m o RequestSense v w n k s c = absurd s
+
+stood-closing : (m : Method) (o : Order) (x : Op) (v w : Seen) (n k : Named) → Standing m (by o m) x v n → isClosing x ≡ true → StandingThen m (by o m) (afterIn (by o m) x) w k
+stood-closing m o GetConfiguration v w n k s c = absurd (false-true c)
+stood-closing m o ReadDiscInformation v w n k s c = absurd (false-true c)
+stood-closing m o (ReadTrackInformation t) v w n k s c = absurd (false-true c)
+stood-closing m o (ModeSelect t) v w n k s c = absurd (false-true c)
+stood-closing m o SendCueSheet v w n k s c = absurd (false-true c)
+stood-closing m o (Write t f d) v w n k s c = absurd (false-true c)
+stood-closing Tao o (SynchronizeCache t) v w n k s c = s
+stood-closing Sao o (SynchronizeCache t) v w n k s c = tt
+stood-closing Tao o (CloseTrack t) v w n k s c = after-closed o (t .0) w k
+stood-closing Sao o (CloseTrack t) v w n k s c = absurd s
+stood-closing m o CloseSession v w n k s c = tt
+stood-closing m o TestUnitReady v w n k s c = absurd s
+stood-closing m o RequestSense v w n k s c = absurd s
+
 -- within the tracks: the reply is not read
 stood-on : (m : Method) (o : Order) (x : Op) (v : Seen) (n : Named) → Sized o → Standing m (by o m) x v n → isAsking x ≡ false → StandingThen m (by o m) (afterIn (by o m) x) (see m x Unread v) n
 stood-on m o GetConfiguration v n z s q = absurd (false-true (sym q))
 stood-on m o ReadDiscInformation v n z s q = absurd (false-true (sym q))
 stood-on m o (ReadTrackInformation t) v n z s q = absurd (false-true (sym q))
-stood-on Tao o (ModeSelect t) v n z s q = let e = s .1 in in-track o (t .0) 0 v n (s .0) (omega arith)
+stood-on Tao o (ModeSelect t) v n z s q = let e = s .1 in in-track o (t .0) 0 (see Tao (ModeSelect t) Unread v) n (s .0) (omega arith)
 stood-on Sao o (ModeSelect t) v n z s q = (s .0, s .1 .1)
 stood-on Tao o SendCueSheet v n z s q = absurd s
-stood-on Sao o SendCueSheet v n z s q = let e = s .1 in in-session o 0 0 v n z (s .0) (record { few = omega arith; fills = omega arith })
+stood-on Sao o SendCueSheet v n z s q = let e = s .1 in in-session o 0 0 (see Sao SendCueSheet Unread v) n z (s .0) (record { few = omega arith; fills = omega arith })
 stood-on Tao o (Write t f c) v n z s q = let e = s .1 .1 in in-track o (t .0) (f .0 + c .0) (see Tao (Write t f c) Unread v) n (s .0) (omega arith)
 stood-on Sao o (Write t f c) v n z s q =
     let w = s .1 .0 .within in
     let p = s .1 .0 .part in
     let x = s .1 .1 .fills in
     in-session o (t .0) (f .0 + c .0) (see Sao (Write t f c) Unread v) n z (s .0) (record { few = s .1 .1 .few; fills = omega arith })
-stood-on Tao o (SynchronizeCache t) v n z s q = s
-stood-on Sao o (SynchronizeCache t) v n z s q = tt
-stood-on Tao o (CloseTrack t) v n z s q = after-closed o (t .0) v n
-stood-on Sao o (CloseTrack t) v n z s q = absurd s
+stood-on m o (SynchronizeCache t) v n z s q = stood-closing m o (SynchronizeCache t) v _ n n s refl
+stood-on m o (CloseTrack t) v n z s q = stood-closing m o (CloseTrack t) v _ n n s refl
 stood-on m o CloseSession v n z s q = tt
+stood-on m o TestUnitReady v n z s q = absurd s
+stood-on m o RequestSense v n z s q = absurd s
 
 stood-by : (m : Method) (o : Order) (x : Op) (r : Reading) (v : Seen) (n : Named) → Sized o → Standing m (by o m) x v n → Reads x true r → refusedBy (judge (by o m) v x r) ≡ none → StandingThen m (by o m) (afterIn (by o m) x) (see m x r v) (name x r n)
 stood-by m o x r v n z s (malformed a) j = absurd (none-found _ (sym j))
@@ -201,8 +234,14 @@ stood-by m o x r v n z s status j = first-track m o _ n z s
 stood-by Tao o x r v n z s (information {t = t} {i = i}) j = (informed-tao o (t .0) v i z s (passed (by o Tao) (t .0) v i (passed-clear (trackTests (by o Tao) (t .0) v i) j)), refl)
 stood-by Sao o x r v n z s (information {t = t} {i = i}) j =
     (informed-sao o v i (subst (λ (k : ℕ). Passed (by o Sao) k v i) (s .0) (passed (by o Sao) (t .0) v i (passed-clear (trackTests (by o Sao) (t .0) v i) j))), s)
-stood-by m o x r v n z s (unread q) j = stood-on m o x v n z s q
+stood-by m o x r v n z s indication j = absurd s
+stood-by m o x r v n z s ready j = absurd s
+stood-by m o x r v n z s (unread q i) j = stood-on m o x v n z s q
 
 -- a good reply that passes
 pub stood : (o : Order) (x : Op) (r : Reading) (v : Seen) (n : Named) → Sized o → Standing (o .method) o x v n → Reads x true r → refusedBy (judge o v x r) ≡ none → StandingThen (o .method) o (afterIn o x) (see (o .method) x r v) (name x r n)
 stood o x r v n z s w j = stood-by (o .method) o x r v n z s w j
+
+-- the end of a polling
+pub stood-polled : (o : Order) (x : Op) (v w : Seen) (n k : Named) → Standing (o .method) o x v n → isClosing x ≡ true → StandingThen (o .method) o (afterIn o x) w k
+stood-polled o x v w n k s c = stood-closing (o .method) o x v w n k s c

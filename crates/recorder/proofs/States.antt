@@ -13,7 +13,7 @@ use Rattle.mmc.specs.Refusals.{pass}
 use Rattle.mmc.specs.Order.{tracksIn, orderKind, validOrder, allKind, blocksOf}
 use Rattle.mmc.specs.Page.{modeBytes, keepsSao, modeData}
 use Rattle.mmc.specs.Sheet.{sheetFault, entry, leadIn, pauseOf, startOf, leadOut, trackEntries, sheetOf, cueSheet}
-use Rattle.mmc.specs.Times.{lastAddress}
+use Rattle.mmc.specs.Times.{lastAddress, framesTo}
 use Rattle.mmc.specs.declared.units.FrameCount.{FrameCount}
 use Rattle.mmc.specs.declared.units.TrackNumber.{TrackNumber}
 use Rattle.mmc.specs.declared.order.Order.{Order}
@@ -22,20 +22,23 @@ use Rattle.mmc.specs.declared.order.Kind.{Kind}
 use Rattle.mmc.specs.declared.order.Method.{Method}
 use Rattle.mmc.specs.declared.order.Method.the-variants.{Tao, Sao}
 use Rattle.recorder.specs.declared.script.Op.{Op}
-use Rattle.recorder.specs.declared.script.Op.the-variants.{GetConfiguration, ReadDiscInformation, ReadTrackInformation, ModeSelect, SendCueSheet, Write, SynchronizeCache, CloseTrack, CloseSession}
+use Rattle.recorder.specs.declared.script.Op.the-variants.{GetConfiguration, ReadDiscInformation, ReadTrackInformation, ModeSelect, SendCueSheet, Write, SynchronizeCache, CloseTrack, CloseSession, TestUnitReady, RequestSense}
+use Rattle.recorder.specs.declared.answers.Command.{Command}
 use Rattle.recorder.specs.declared.exchanges.Seen.{Seen}
+use Rattle.recorder.specs.declared.job.Poll.{Poll}
+use Rattle.recorder.specs.declared.job.Poll.the-variants.{Off, Ready, Sense}
 use Rattle.recorder.specs.Answers.{sheetBytes}
 use Rattle.recorder.specs.Script.{trackIn, write, stepwise}
 use Rattle.recorder.specs.Exchanges.{Named}
 use Rattle.recorder.specs.Rules.{mixedOrKept, lastFrame}
 use Rattle.recorder.specs.Places.{pieceOf}
-use Rattle.recorder.specs.Job.{commandOf, inOrder, inTime, inPiece, isWrite, standsAt, standsIn, stands}
+use Rattle.recorder.specs.Job.{dueAt, commandOf, inOrder, inTime, inPiece, isWrite, standsAt, standsIn, standsPolled, stands}
 use Rattle.recorder.specs.History.{Accompanied, FreshWrite}
-use Rattle.recorder.proofs.Lists.{if-yes, if-no, false-true, neither, frames-back}
+use Rattle.recorder.proofs.Lists.{if-yes, if-no, false-true, neither, frames-back, clash}
 use Rattle.recorder.proofs.Scripts.{by}
 use Rattle.recorder.proofs.Behind.{Sized, sized-by}
 use Rattle.recorder.proofs.Standing.{blocks-less, long-at, InOrder, InSession, IsWrite, Standing}
-use Rattle.recorder.proofs.Moves.{at}
+use Rattle.recorder.proofs.Moves.{at, PolledAt, Stood}
 
 -- ---- the recorder's own test
 
@@ -111,27 +114,41 @@ stands-by Tao o (CloseTrack t) v n z s = order-so (by o Tao) (t .0) s
 stands-by Sao o (CloseTrack t) v n z s = absurd s
 stands-by Tao o CloseSession v n z s = refl
 stands-by Sao o CloseSession v n z s = absurd s
+stands-by m o TestUnitReady v n z s = absurd s
+stands-by m o RequestSense v n z s = absurd s
 
-pub standing-stands : (o : Order) (x : Op) (v : Seen) (n : Named) → Sized o → Standing (o .method) o x v n → stands o (at x v) ≡ true
+polled-so : (o : Order) (x : Op) (p : Poll) → PolledAt o x p → standsPolled (o .immed) x p ≡ true
+polled-so o x Off c = refl
+polled-so o x Ready c = c
+polled-so o x Sense c = c
+
+pub stood-stands : (o : Order) (x : Op) (p : Poll) (v : Seen) (n : Named) → Sized o → Stood o x p v n → stands o (at x p v) ≡ true
 unfolding standsIn
-standing-stands o x v n z s = two _ _ (le-leb _ _ (z .some)) (two _ _ (le-leb _ _ (z .few)) (stands-by (o .method) o x v n z s))
+stood-stands o x p v n z s =
+    two _ _ (polled-so o x p (s .polled-at)) (two _ _ (le-leb _ _ (z .some)) (two _ _ (le-leb _ _ (z .few)) (stands-by (o .method) o x v n z (s .standing))))
 
 -- ---- no stale address
 
 -- from a WRITE as it stands to its numbers
-fresh-by : (o : Order) (x : Op) (v : Seen) (n : Named) (t f k : ℕ) → Standing Tao o (write t f k) v n → FreshWrite n (commandOf (at x v)) t f k
-fresh-by o x v n t f k s =
+fresh-by : (o : Order) (c : Command) (v : Seen) (n : Named) (t f k : ℕ) → framesTo (c .address) .0 ≡ v .at .0 → Standing Tao o (write t f k) v n → FreshWrite n c t f k
+fresh-by o c v n t f k a s =
     let w = s .1 .0 .within in
     let p = s .1 .0 .part in
     let r = s .0 .room in
-    record { of-track = s .0 .of-track; at-address = frames-back (v .at) ∙ s .1 .1; within = omega arith }
+    record { of-track = s .0 .of-track; at-address = a ∙ s .1 .1; within = omega arith }
 
-fresh-in : (m : Method) (o : Order) (x : Op) (v : Seen) (n : Named) → stepwise m ≡ true → Standing m o x v n → (t f k : ℕ) → x ≡ write t f k → FreshWrite n (commandOf (at x v)) t f k
-fresh-in Tao o x v n w s t f k e = fresh-by o x v n t f k (subst (λ (y : Op). Standing Tao o y v n) e s)
-fresh-in Sao o x v n w s t f k e = absurd (false-true w)
+fresh-in : (m : Method) (o : Order) (x : Op) (c : Command) (v : Seen) (n : Named) → framesTo (c .address) .0 ≡ v .at .0 → stepwise m ≡ true → Standing m o x v n → (t f k : ℕ) → x ≡ write t f k → FreshWrite n c t f k
+fresh-in Tao o x c v n a w s t f k e = fresh-by o c v n t f k a (subst (λ (y : Op). Standing Tao o y v n) e s)
+fresh-in Sao o x c v n a w s t f k e = absurd (false-true w)
 
-pub standing-fresh : (o : Order) (x : Op) (v : Seen) (n : Named) → stepwise (o .method) ≡ true → Standing (o .method) o x v n → (t f k : ℕ) → x ≡ write t f k → FreshWrite n (commandOf (at x v)) t f k
-standing-fresh o x v n w s = fresh-in (o .method) o x v n w s
+-- a poll is no WRITE
+fresh-at : (o : Order) (x : Op) (p : Poll) (v : Seen) (n : Named) → stepwise (o .method) ≡ true → Standing (o .method) o x v n → (t f k : ℕ) → dueAt x p ≡ write t f k → FreshWrite n (commandOf (at x p v)) t f k
+fresh-at o x Off v n w s t f k e = fresh-in (o .method) o x _ v n (frames-back (v .at)) w s t f k e
+fresh-at o x Ready v n w s t f k e = clash (cc)
+fresh-at o x Sense v n w s t f k e = clash (cc)
+
+pub stood-fresh : (o : Order) (x : Op) (p : Poll) (v : Seen) (n : Named) → stepwise (o .method) ≡ true → Stood o x p v n → (t f k : ℕ) → dueAt x p ≡ write t f k → FreshWrite n (commandOf (at x p v)) t f k
+stood-fresh o x p v n w s = fresh-at o x p v n w (s .standing)
 
 -- ---- the mode data and the cue sheet
 
@@ -181,5 +198,10 @@ accompanied-by m o x v n z s =
     sheet Tao s = absurd s
     sheet Sao s = (sheetOf (by o Sao), (sheet-so o (sized-by Sao o z .valid) (s .0), sheet-length (by o Sao) (z .all)))
 
-pub standing-accompanied : (o : Order) (x : Op) (v : Seen) (n : Named) → Sized o → Standing (o .method) o x v n → Accompanied o x
-standing-accompanied o x v n z s = accompanied-by (o .method) o x v n z s
+accompanied-at : (o : Order) (x : Op) (p : Poll) (v : Seen) (n : Named) → Sized o → Standing (o .method) o x v n → Accompanied o (dueAt x p)
+accompanied-at o x Off v n z s = accompanied-by (o .method) o x v n z s
+accompanied-at o x Ready v n z s = record { page = λ t e. clash (cc); sheet = λ e. clash (cc) }
+accompanied-at o x Sense v n z s = record { page = λ t e. clash (cc); sheet = λ e. clash (cc) }
+
+pub stood-accompanied : (o : Order) (x : Op) (p : Poll) (v : Seen) (n : Named) → Sized o → Stood o x p v n → Accompanied o (dueAt x p)
+stood-accompanied o x p v n z s = accompanied-at o x p v n z (s .standing)
