@@ -1,12 +1,13 @@
 -- Demand 3, of every order block and every list of replies, and what `take` and `give` owe of it.
 use mathlib.Core.Path.{_≡_, refl, sym, ap, subst, _∙_}
 use mathlib.Core.Logic.{_↔_}
-use mathlib.Core.Bool.{Bool, true}
+use mathlib.Core.Bool.{Bool, true, false}
 use mathlib.Core.List.{List, [], _∷_, _++_}
 use Prim.Native.Nat.{ℕ, suc, _+_, _≤_, _<_, min}
 use native.Mathlib.Omega.{arith}
 use lib.Dec.{lit≤}
 use lib.ListN.{length, getD}
+use Rattle.mmc.specs.Bytes.{if}
 use Rattle.mmc.specs.Refusals.{Outcome, pass, refuse}
 use Rattle.mmc.specs.OrderBlock.{readOrder}
 use Rattle.mmc.specs.ReplyBlock.{Reply, replyOf}
@@ -14,25 +15,26 @@ use Rattle.mmc.specs.declared.order.Order.{Order}
 use Rattle.recorder.specs.declared.script.Op.{Op}
 use Rattle.recorder.specs.declared.script.Op.the-variants.{GetConfiguration}
 use Rattle.recorder.specs.declared.answers.Command.{Command}
+use Rattle.recorder.specs.declared.job.Poll.{Poll}
+use Rattle.recorder.specs.declared.job.Poll.the-variants.{Off}
 use Rattle.recorder.specs.declared.job.Recorder.{Recorder}
 use Rattle.recorder.specs.declared.job.Step.{Step}
 use Rattle.recorder.specs.Answers.{Why, because, Ruling, issue, done, stop, madeFor, bytesIn}
-use Rattle.recorder.specs.Script.{stepwise, Block}
-use Rattle.recorder.specs.Exchanges.{Exchange, recorded, occupied, seen, named}
-use Rattle.recorder.specs.Rules.{none, found, refusal, ruled, exchanged, play, orderedIn, AllClosed}
-use Rattle.recorder.specs.Job.{Next, nextIn, commandOf, mostCommands, unchanged, validOf, takenAs, takeOf, giveOf}
-use Rattle.recorder.specs.History.{History, taken, given, givenAll, history, commandIn, commands, going, as-done, as-stop, ending, ended, Accompanied, EachFresh, FreshAnswer, AllMarkedGood, AllGood, Whole, Takes, Gives}
+use Rattle.recorder.specs.Script.{isPoll, stepwise, Block}
+use Rattle.recorder.specs.Exchanges.{Exchange, recorded, occupied, polling, progress, seen, named}
+use Rattle.recorder.specs.Rules.{left, none, found, refusal, ruled, exchanged, play, orderedIn, AllClosed}
+use Rattle.recorder.specs.Job.{Next, nextIn, dueAt, commandOf, mostCommands, latestProgress, unchanged, restsAt, validOf, idleRecorder, takenAs, takeOf, giveOf}
+use Rattle.recorder.specs.History.{History, taken, given, givenAll, history, commandIn, commands, going, as-done, as-stop, ending, ended, Accompanied, Each, OfAnswer, Every, Fresh, Unskipped, AllWell, unpolled, answered, AllGood, Whole, Takes, Gives, Rests}
 use Rattle.recorder.proofs.Lists.{clash, false-true}
-use Rattle.recorder.proofs.Turns.{played}
+use Rattle.recorder.proofs.Turns.{Played, played, progress-seen}
 use Rattle.recorder.proofs.Scripts.{script-length}
-use Rattle.recorder.proofs.Rulings.{ruled-at, rule-order, rule-done, rule-stop}
+use Rattle.recorder.proofs.Rulings.{ruled-at, rule-order, rule-done, due-poll, each-unskipped, rule-stop}
 use Rattle.recorder.proofs.Apart.{rule-apart}
-use Rattle.recorder.proofs.Goods.{Progressed, under-way, at-end, rule-good}
-use Rattle.recorder.proofs.Witness.{can-pass}
-use Rattle.recorder.proofs.Behind.{Sized, behind}
-use Rattle.recorder.proofs.Moves.{at}
+use Rattle.recorder.proofs.Goods.{never-polling, no-polls, Progressed, under-way, polled, at-end, rule-good}
+use Rattle.recorder.proofs.Behind.{Sized}
+use Rattle.recorder.proofs.Moves.{at, behindAt, planAt}
 use Rattle.recorder.proofs.Makes.{give-made, take-made}
-use Rattle.recorder.proofs.States.{standing-stands, standing-fresh, standing-accompanied}
+use Rattle.recorder.proofs.States.{stood-stands, stood-fresh, stood-accompanied, stood-shows}
 use Rattle.recorder.proofs.Orders.{read-sized}
 use Rattle.recorder.proofs.Steps.{waiting, Going, isEnd, Inv, open-so, over-so, no-exchange, ended-valid, give-over, next-inv}
 
@@ -43,12 +45,12 @@ begun-as q = record { last = takenAs q; answers = takenAs q .answer ∷ []; exch
 
 first : (q : Outcome Order) → ((o : Order) → q ≡ pass o → Sized o) → Inv q 0 (begun-as q)
 first (pass o) z =
-    open-so {x = GetConfiguration}
+    open-so {x = GetConfiguration} {p = Off}
     (record {
       sized = z o refl;
       unrefused = refl;
       plan = refl;
-      standing = refl;
+      stood = record { standing = refl; polled-at = tt };
       bytes-made = take-made o 0 _ refl;
       counts = refl;
       not-ended = refl;
@@ -73,11 +75,11 @@ first (refuse n) z =
     })
 
 -- the job's command is the rules'
-ruled-going : (o : Order) (k : ℕ) (x : Op) (n : ℕ) (xs : List Ruling) (es : List Exchange) → Going o k x n xs es → ruled (pass o) es ≡ issue (commandOf (at x (seen (o .method) es)))
-ruled-going o k x n xs es g = ruled-at o es (x ∷ behind o x) (g .unrefused) (g .plan)
+ruled-going : (o : Order) (k : ℕ) (x : Op) (p : Poll) (n : ℕ) (xs : List Ruling) (es : List Exchange) → Going o k x p n xs es → ruled (pass o) es ≡ issue (commandOf (at x p (seen (o .method) es)))
+ruled-going o k x p n xs es g = ruled-at o es (planAt o x p) (g .unrefused) (g .plan)
 
 same-turn : (q : Outcome Order) (k : ℕ) (h : History) → Inv q k h → (y : Reply) → exchanged (h .last .answer) y (h .exchanges) ≡ exchanged (ruled q (h .exchanges)) y (h .exchanges)
-same-turn q k h (open-so {o = o} {x = x} {n = n} {xs = xs} {es = es} g) y = ap (λ (a : Ruling). exchanged a y es) (sym (ruled-going o k x n xs es g))
+same-turn q k h (open-so {o = o} {x = x} {p = p} {n = n} {xs = xs} {es = es} g) y = ap (λ (a : Ruling). exchanged a y es) (sym (ruled-going o k x p n xs es g))
 same-turn q k h (over-so v) y = no-exchange (h .last .answer) y (h .exchanges) (v .answer-ends) ∙ sym (no-exchange (ruled q (h .exchanges)) y (h .exchanges) (v .rules-over))
 
 record After (q : Outcome Order) (k : ℕ) (es : List Exchange) (h : History) : Type 0 where
@@ -110,51 +112,75 @@ record Latest (q : Outcome Order) (k : ℕ) (h : History) : Type 0 where
   after-end : length (h .exchanges) < k → h .last .answer ≡ stop (because 13)
   so-ended : ended (h .answers) ≡ ending (ruled q (h .exchanges))
   unmoved : (ended (h .answers) ≡ going → ⊥) → (y : Reply) → given h y .last ≡ unchanged (h .last .state) 13
-  made : (o : Order) → q ≡ pass o → (c : Command) → h .last .answer ≡ issue c → madeFor (o .count) c ≡ pass (bytesIn (h .last .cdb))
+  made : (o : Order) → q ≡ pass o → (c : Command) → h .last .answer ≡ issue c → madeFor (o .immed) (o .count) c ≡ pass (bytesIn (h .last .cdb))
   accompanied : (o : Order) → q ≡ pass o → (c : Command) → h .last .answer ≡ issue c → Accompanied o (c .op)
   counts : h .last .state .count ≡ min (length (commands (h .answers))) mostCommands
   reports : h .last .count ≡ h .last .state .count
-  given-so : length (commands (h .answers)) ≡ length (h .exchanges) + length (commandIn (ruled q (h .exchanges)))
-  fresh : (o : Order) → q ≡ pass o → stepwise (o .method) ≡ true → EachFresh (h .exchanges) × FreshAnswer (h .exchanges) (h .last .answer)
+  given-so : commands (h .answers) ≡ commandIn (ruled q (h .exchanges)) ++ answered (h .exchanges)
+  fresh : (o : Order) → q ≡ pass o → stepwise (o .method) ≡ true → Every Fresh (h .exchanges) (h .last .answer)
+  unskipped : (o : Order) → q ≡ pass o → Played o (h .exchanges) → OfAnswer (Unskipped (o .immed) (h .exchanges)) (h .last .answer)
+  shows : (o : Order) → q ≡ pass o → Played o (h .exchanges) → ended (h .answers) ≡ going → latestProgress (h .last .state .progress) ≡ if (polling (o .immed) (h .exchanges)) (progress (h .exchanges)) 0
 
-no-commands : (a : Ruling) → isEnd a ≡ true → length (commandIn a) ≡ 0
-no-commands (issue c) e = absurd (false-true e)
-no-commands done e = refl
-no-commands (stop w) e = refl
+no-commands : (a : Ruling) (l : List Command) → isEnd a ≡ true → l ≡ commandIn a ++ l
+no-commands (issue c) l e = absurd (false-true e)
+no-commands done l e = refl
+no-commands (stop w) l e = refl
 
-no-write : (es : List Exchange) (a : Ruling) → isEnd a ≡ true → FreshAnswer es a
-no-write es (issue c) e = absurd (false-true e)
-no-write es done e = tt
-no-write es (stop w) e = tt
+-- an end is no command
+no-command : (P : Command → Type 0) (a : Ruling) → isEnd a ≡ true → OfAnswer P a
+no-command P (issue c) e = absurd (false-true e)
+no-command P done e = tt
+no-command P (stop w) e = tt
 
-valid-going : (o : Order) (k : ℕ) (x : Op) (n : ℕ) (xs : List Ruling) (es : List Exchange) → Going o k x n xs es → validOf (waiting o x es n) ≡ true
-unfolding validOf
-valid-going o k x n xs es g = standing-stands o x (seen (o .method) es) (named es) (g .sized) (g .standing)
+is-over : (a : Ruling) → isEnd a ≡ true → ending a ≡ going → ⊥
+is-over (issue c) e g = false-true e
+is-over done e g = clash (cc)
+is-over (stop w) e g = clash (cc)
+
+module _ (o : Order) (k : ℕ) (x : Op) (p : Poll) (n : ℕ) (xs : List Ruling) (es : List Exchange) (g : Going o k x p n xs es) where
+  valid-going : validOf (waiting o x p es n) ≡ true
+  unfolding validOf
+  valid-going = stood-stands o x p (seen (o .method) es) (named es) (g .sized) (g .stood)
+
+  -- of the same order
+  module _ (r : Order) (i : o ≡ r) where
+    unskipped-going : Played r es → isPoll (dueAt x p) ≡ polling (r .immed) es
+    unskipped-going w = due-poll r es (dueAt x p) (behindAt o x p) w (ap (λ (q : Order). left q es) (sym i) ∙ g .plan)
+
+    shows-going : Played r es → latestProgress (at x p (seen (o .method) es)) ≡ if (polling (r .immed) es) (progress es) 0
+    shows-going w =
+        stood-shows o x p (seen (o .method) es) (named es) (polling (r .immed) es) (g .stood) (unskipped-going w) ∙
+        ap (λ (m : ℕ). if (polling (r .immed) es) m 0) (progress-seen (o .method) es)
 
 latest-of : (q : Outcome Order) (k : ℕ) (h : History) → Inv q k h → Latest q k h
 unfolding given
-latest-of q k h (open-so {o = o} {x = x} {n = n} {xs = xs} {es = es} g) =
-    let r : ruled (pass o) es ≡ issue (commandOf (at x (seen (o .method) es))) = ruled-going o k x n xs es g in
+latest-of q k h (open-so {o = o} {x = x} {p = p} {n = n} {xs = xs} {es = es} g) =
+    let r : ruled (pass o) es ≡ issue (commandOf (at x p (seen (o .method) es))) = ruled-going o k x p n xs es g in
     let e = g .each in
     record {
-      valid = valid-going o k x n xs es g;
+      valid = valid-going o k x p n xs es g;
       in-turn = omega arith;
       as-ruled = λ z. sym r;
       after-end = λ z. absurd (omega arith);
       so-ended = g .not-ended ∙ ap ending (sym r);
       unmoved = λ z y. absurd (z (g .not-ended));
-      made = λ p f c u. let i : o ≡ p = cc in let j : commandOf (at x (seen (o .method) es)) ≡ c = cc in ap (λ (z : Order). madeFor (z .count) c) (sym i) ∙ ap (madeFor (o .count)) (sym j) ∙ g .bytes-made;
-      accompanied = λ p f c u.
-          let i : o ≡ p = cc in
-          let j : commandOf (at x (seen (o .method) es)) ≡ c = cc in
-          subst (λ (z : Order). Accompanied z (c .op)) i (subst (λ (d : Command). Accompanied o (d .op)) j (standing-accompanied o x (seen (o .method) es) (named es) (g .sized) (g .standing)));
+      made = λ a f c u.
+          let i : o ≡ a = cc in
+          let j : commandOf (at x p (seen (o .method) es)) ≡ c = cc in
+          ap (λ (z : Order). madeFor (z .immed) (z .count) c) (sym i) ∙ ap (madeFor (o .immed) (o .count)) (sym j) ∙ g .bytes-made;
+      accompanied = λ a f c u.
+          let i : o ≡ a = cc in
+          let j : commandOf (at x p (seen (o .method) es)) ≡ c = cc in
+          subst (λ (z : Order). Accompanied z (c .op)) i (subst (λ (d : Command). Accompanied o (d .op)) j (stood-accompanied o x p (seen (o .method) es) (named es) (g .sized) (g .stood)));
       counts = g .counts;
       reports = refl;
-      given-so = g .commands-given ∙ ap (λ (a : Ruling). length es + length (commandIn a)) (sym r);
-      fresh = λ p f w.
-          let i : o ≡ p = cc in
+      given-so = g .commands-given ∙ ap (λ (a : Ruling). commandIn a ++ answered es) (sym r);
+      fresh = λ a f w.
+          let i : o ≡ a = cc in
           let s : stepwise (o .method) ≡ true = ap (λ (z : Order). stepwise (z .method)) i ∙ w in
-          (g .fresh s, standing-fresh o x (seen (o .method) es) (named es) s (g .standing));
+          (g .fresh s, stood-fresh o x p (seen (o .method) es) (named es) s (g .stood));
+      unskipped = λ a f w. let i : o ≡ a = cc in unskipped-going o k x p n xs es g a i w;
+      shows = λ a f w z. let i : o ≡ a = cc in shows-going o k x p n xs es g a i w;
     }
 latest-of q k h (over-so v) =
     record {
@@ -168,8 +194,10 @@ latest-of q k h (over-so v) =
       accompanied = λ o f c x. absurd (false-true (ap isEnd (sym x) ∙ v .answer-ends));
       counts = v .counts;
       reports = v .reports;
-      given-so = let c = v .commands-given in let z = no-commands (ruled q (h .exchanges)) (v .rules-over) in omega arith;
-      fresh = λ o e w. (v .fresh o e w, no-write (h .exchanges) (h .last .answer) (v .answer-ends));
+      given-so = v .commands-given ∙ no-commands (ruled q (h .exchanges)) (answered (h .exchanges)) (v .rules-over);
+      fresh = λ o e w. (v .fresh o e w, no-command (Fresh (h .exchanges)) (h .last .answer) (v .answer-ends));
+      unskipped = λ o e w. no-command (Unskipped (o .immed) (h .exchanges)) (h .last .answer) (v .answer-ends);
+      shows = λ o e w z. absurd (is-over (ruled q (h .exchanges)) (v .rules-over) (sym (v .so-ended) ∙ z));
     }
 
 -- ---- what the rules say of either kind of order block
@@ -210,10 +238,13 @@ ended-stop w (issue c) = (λ e. clash (cc), λ e. clash (cc))
 ended-stop w done = (λ e. clash (cc), λ e. clash (cc))
 ended-stop w (stop x) = (λ e. let z : x ≡ w = cc in ap stop z, λ e. let z : x ≡ w = cc in ap as-stop z)
 
-waiting-one : (a : Ruling) → ending a ≡ going → length (commandIn a) ≡ 1
-waiting-one (issue c) x = refl
-waiting-one done x = clash (cc)
-waiting-one (stop w) x = clash (cc)
+unpolled-append : (cs ds : List Command) → unpolled (cs ++ ds) ≡ unpolled cs + unpolled ds
+unpolled-append [] ds = omega arith
+unpolled-append (c ∷ cs) ds = go (isPoll (c .op)) (unpolled-append cs ds)
+  where
+    go : (b : Bool) → unpolled (cs ++ ds) ≡ unpolled cs + unpolled ds → if b (unpolled (cs ++ ds)) (suc (unpolled (cs ++ ds))) ≡ if b (unpolled cs) (suc (unpolled cs)) + unpolled ds
+    go true e = e
+    go false e = omega arith
 
 -- ---- demand 3
 
@@ -228,30 +259,46 @@ module _ (b : List ℕ) (rs : List Reply) where
   latest-here = latest-of (readOrder b) (length rs) h (after-all b rs .inv)
 
   -- part 7
-  good-ends : (o : Order) → readOrder b ≡ pass o → AllMarkedGood rs → refusal (pass o) (h .exchanges) ≡ none → AllGood o (length rs) (h .answers)
-  good-ends o e g u = go (rule-good o rs (read-sized b o e .all) g (ap (refusal (pass o)) (sym same-exchanges) ∙ u))
-    where
-      same-exchanges : h .exchanges ≡ play (pass o) [] rs
-      same-exchanges = is-played ∙ ap (λ (q : Outcome Order). play q [] rs) e
+  module _ (o : Order) (e : readOrder b ≡ pass o) where
+    abbrev es : List Exchange
+    es = play (pass o) [] rs
 
-      same-ruling : ruled (readOrder b) (h .exchanges) ≡ ruled (pass o) (play (pass o) [] rs)
-      same-ruling = ap (λ (q : Outcome Order). ruled q (h .exchanges)) e ∙ ap (ruled (pass o)) same-exchanges
+    same-exchanges : h .exchanges ≡ es
+    same-exchanges = is-played ∙ ap (λ (q : Outcome Order). play q [] rs) e
 
-      so-ended : ended (h .answers) ≡ ending (ruled (pass o) (play (pass o) [] rs))
-      so-ended = latest-here .so-ended ∙ ap ending same-ruling
+    played-here : Played o (h .exchanges)
+    played-here = subst (Played o) (sym same-exchanges) (played o rs)
 
-      given-so : length (commands (h .answers)) ≡ length (play (pass o) [] rs) + length (commandIn (ruled (pass o) (play (pass o) [] rs)))
-      given-so = latest-here .given-so ∙ ap (λ (a : Ruling). length (h .exchanges) + length (commandIn a)) same-ruling ∙ ap (λ (l : List Exchange). length l + length (commandIn (ruled (pass o) (play (pass o) [] rs)))) same-exchanges
+    same-ruling : ruled (readOrder b) (h .exchanges) ≡ ruled (pass o) es
+    same-ruling = ap (λ (q : Outcome Order). ruled q (h .exchanges)) e ∙ ap (ruled (pass o)) same-exchanges
 
-      go : Progressed o (length rs) (play (pass o) [] rs) → AllGood o (length rs) (h .answers)
-      go (under-way x l n) =
-          let c = given-so in
-          let w = waiting-one (ruled (pass o) (play (pass o) [] rs)) x in
-          record { given-count = omega arith; done-at = λ y. absurd (omega arith); not-before = λ y. so-ended ∙ x }
-      go (at-end x l n) =
-          let c = given-so in
-          let w : length (commandIn (ruled (pass o) (play (pass o) [] rs))) ≡ 0 = ap (λ (a : Ruling). length (commandIn a)) (ended-done (ruled (pass o) (play (pass o) [] rs)) .0 x) in
-          record { given-count = omega arith; done-at = λ y. so-ended ∙ x; not-before = λ y. absurd (omega arith) }
+    so-ended : ended (h .answers) ≡ ending (ruled (pass o) es)
+    so-ended = latest-here .so-ended ∙ ap ending same-ruling
+
+    given-so : commands (h .answers) ≡ commandIn (ruled (pass o) es) ++ answered es
+    given-so = latest-here .given-so ∙ ap (λ (a : Ruling). commandIn a ++ answered (h .exchanges)) same-ruling ∙ ap (λ (l : List Exchange). commandIn (ruled (pass o) es) ++ answered l) same-exchanges
+
+    given-unpolled : unpolled (commands (h .answers)) ≡ unpolled (commandIn (ruled (pass o) es)) + unpolled (answered es)
+    given-unpolled = ap unpolled given-so ∙ unpolled-append (commandIn (ruled (pass o) es)) (answered es)
+
+    all-good-by : Progressed o (length rs) es → AllGood o (length rs) es (h .answers)
+    all-good-by (under-way x l p c n) =
+        let a = given-unpolled in
+        record {
+          given-count = ?;
+          done-at = λ y z. absurd (omega arith);
+          not-before = λ y. so-ended ∙ x;
+          not-polling = λ y. absurd (false-true (sym p ∙ y));
+          each-reply = λ y. l;
+          no-polls = ?;
+        }
+    all-good-by (polled x l p c n) = ?
+    all-good-by (at-end x l p c n) = ?
+
+  good-ends : (o : Order) → readOrder b ≡ pass o → AllWell (h .exchanges) → refusal (pass o) (h .exchanges) ≡ none → AllGood o (length rs) (h .exchanges) (h .answers)
+  good-ends o e g u =
+      subst (λ (l : List Exchange). AllGood o (length rs) l (h .answers)) (sym (same-exchanges o e))
+      (all-good-by o e (rule-good o rs (read-sized b o e .all) (subst AllWell (same-exchanges o e) g) (ap (refusal (pass o)) (sym (same-exchanges o e)) ∙ u)))
 
   -- of every order block and every list of replies
   pub whole : Whole b rs h
@@ -277,6 +324,8 @@ module _ (b : List ℕ) (rs : List Reply) where
         all-good = good-ends;
         is-valid = l .valid;
         never-stale = l .fresh;
+        never-skips = λ o e. (each-unskipped o (h .exchanges) (played-here o e), l .unskipped o e (played-here o e));
+        shows = λ o e z. l .shows o e (played-here o e) z;
       }
 
 -- ---- what the calls owe, from their equations

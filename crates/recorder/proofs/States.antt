@@ -1,6 +1,6 @@
 -- What an operation that is due gives: the state passes the recorder's own test, a WRITE of a track at once is fresh, and the mode data
 -- and the cue sheet that go with a command are made.
-use mathlib.Core.Path.{_≡_, refl, ap, subst, _∙_}
+use mathlib.Core.Path.{_≡_, refl, sym, ap, subst, _∙_}
 use mathlib.Core.Bool.{Bool, true, false, _&&_}
 use mathlib.Core.List.{List, [], _∷_}
 use Prim.Native.Nat.{ℕ, suc, _+_, _-_, _*_, _≤_, _<_}
@@ -28,11 +28,11 @@ use Rattle.recorder.specs.declared.exchanges.Seen.{Seen}
 use Rattle.recorder.specs.declared.job.Poll.{Poll}
 use Rattle.recorder.specs.declared.job.Poll.the-variants.{Off, Ready, Sense}
 use Rattle.recorder.specs.Answers.{sheetBytes}
-use Rattle.recorder.specs.Script.{trackIn, write, stepwise}
+use Rattle.recorder.specs.Script.{isPoll, trackIn, write, stepwise}
 use Rattle.recorder.specs.Exchanges.{Named}
 use Rattle.recorder.specs.Rules.{mixedOrKept, lastFrame}
 use Rattle.recorder.specs.Places.{pieceOf}
-use Rattle.recorder.specs.Job.{dueAt, commandOf, inOrder, inTime, inPiece, isWrite, standsAt, standsIn, standsPolled, stands}
+use Rattle.recorder.specs.Job.{dueAt, commandOf, latestProgress, inOrder, inTime, inPiece, isWrite, standsAt, standsIn, standsPolled, stands}
 use Rattle.recorder.specs.History.{Accompanied, FreshWrite}
 use Rattle.recorder.proofs.Lists.{if-yes, if-no, false-true, neither, frames-back, clash}
 use Rattle.recorder.proofs.Scripts.{by}
@@ -205,3 +205,24 @@ accompanied-at o x Sense v n z s = record { page = λ t e. clash (cc); sheet = �
 
 pub stood-accompanied : (o : Order) (x : Op) (p : Poll) (v : Seen) (n : Named) → Sized o → Stood o x p v n → Accompanied o (dueAt x p)
 stood-accompanied o x p v n z s = accompanied-at o x p v n z (s .standing)
+
+-- ---- the progress that the panel shows
+
+no-poll : (m : Method) (o : Order) (x : Op) (v : Seen) (n : Named) → Standing m o x v n → isPoll x ≡ false
+no-poll m o GetConfiguration v n s = refl
+no-poll m o ReadDiscInformation v n s = refl
+no-poll m o (ReadTrackInformation t) v n s = refl
+no-poll m o (ModeSelect t) v n s = refl
+no-poll m o SendCueSheet v n s = refl
+no-poll m o (Write t f c) v n s = refl
+no-poll m o (SynchronizeCache t) v n s = refl
+no-poll m o (CloseTrack t) v n s = refl
+no-poll m o CloseSession v n s = refl
+no-poll m o TestUnitReady v n s = absurd s
+no-poll m o RequestSense v n s = absurd s
+
+-- that of the polling, where the poll that is due says that one is under way
+pub stood-shows : (o : Order) (x : Op) (p : Poll) (v : Seen) (n : Named) (b : Bool) → Stood o x p v n → isPoll (dueAt x p) ≡ b → latestProgress (at x p v) ≡ if b (v .progress) 0
+stood-shows o x Off v n b s e = sym (if-no _ _ (sym e ∙ no-poll (o .method) o x v n (s .standing)))
+stood-shows o x Ready v n b s e = sym (if-yes _ _ (sym e))
+stood-shows o x Sense v n b s e = sym (if-yes _ _ (sym e))

@@ -20,8 +20,8 @@ use Rattle.recorder.specs.declared.replies.Reading.the-variants.{Busy, N
 use Rattle.recorder.specs.declared.exchanges.Seen.{Seen}
 use Rattle.recorder.specs.Answers.{Why, because}
 use Rattle.recorder.specs.Replies.{senseOf, isBusy, readFailed, isUnready, readUnready, wholeProfile, readProfile, wholeDisc, readStatus, wholeInformation, readInformation, progressOf, readProgress, readGood, failedBy, reading, ofProgress}
-use Rattle.recorder.specs.Script.{code, asksReady, isPoll, isPolled, polls}
-use Rattle.recorder.specs.Exchanges.{Exchange, wasReady, polling, see, seen}
+use Rattle.recorder.specs.Script.{code, isClosing, asksReady, isPoll, isPolled, polls}
+use Rattle.recorder.specs.Exchanges.{Exchange, wasReady, polling, progress, see, seen}
 use Rattle.recorder.specs.Rules.{Judgement, again, onward, refused, Test, tested, trackTests, pollsIf, judge, judged, left, Found, none, found, firstRefused, command, answerTo, ruled, exchanged, play}
 
 -- ---- the exchanges that the rules make
@@ -231,3 +231,26 @@ pub turn : (o : Order) (es : List Exchange) (x : Op) (y : Reply) → Turn (polli
 turn o es x y =
     subst (λ (b : Bool). Turn (polling (o .immed) es) x (y .good) (pollingBy (polling (o .immed) es) (o .immed) b x (y .good) (reading x y)) (judged o es (made o es x y))) (was-ready (o .method) es)
     (turn-by (polling (o .immed) es) o (seen (o .method) es) x (y .good) (reading x y) (reads x y))
+
+-- ---- the latest progress, as it was seen
+
+progress-by : (m : Method) (x : Op) (v : Seen) (g : Bool) (r : Reading) → Reads x g r → see m x r v .progress ≡ if (g && isClosing x) 0 (ofProgress (v .progress) (λ n. n) r)
+progress-by m x v g r (busy n) = refl
+progress-by m x v g r not-ready = refl
+progress-by m x v g r failed = refl
+progress-by m x v g r (malformed a46) = refl
+progress-by m x v g r (malformed a51) = refl
+progress-by m x v g r (malformed a52) = refl
+progress-by m x v g r (malformed a03) = refl
+progress-by m x v g r profile = refl
+progress-by m x v g r status = refl
+progress-by m x v g r information = refl
+progress-by m x v g r indication = refl
+progress-by m x v g r ready = refl
+progress-by m x v g r (unread q n) = refl
+
+pub progress-seen : (m : Method) (es : List Exchange) → seen m es .progress ≡ progress es
+progress-seen m [] = refl
+progress-seen m (e ∷ es) =
+    progress-by m (e .command .op) (seen m es) (e .reply .good) (reading (e .command .op) (e .reply)) (reads (e .command .op) (e .reply)) ∙
+    ap (λ (n : ℕ). if (e .reply .good && isClosing (e .command .op)) 0 (ofProgress n (λ k. k) (reading (e .command .op) (e .reply)))) (progress-seen m es)
