@@ -147,7 +147,7 @@ pub fn test_unit_ready(out: &mut [u8]) -> Made
     fill(&cdb, out)
 }
 
-// 03h: why the drive is not ready, in 18 bytes of sense data.
+// 03h: asks for 18 bytes of sense data, which tell the progress.
 pub fn request_sense(out: &mut [u8]) -> Made
     ensures { λ r. ⌜ Fills (pass requestSense) r (now (out .entry)) (now (out .exit)) ⌝ }
 {
