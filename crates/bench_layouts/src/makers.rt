@@ -11,6 +11,7 @@ use crate::request::kind_at;
 use crate::request::lent_length;
 use crate::request::one_at;
 use crate::request::order_at;
+use crate::request::set_at;
 use crate::request::two_at;
 use mmc::commands;
 use mmc::order_block::write_order;
@@ -21,21 +22,28 @@ use mmc::sheet::make_sheet;
 use mmc::units::BlockCount;
 use mmc::units::TrackNumber;
 
-// Makes what operation 6 to 17 asks for.
+// Makes what operation 6 to 19 asks for.
 fn make(op: u32, b: &[u8], out: &mut [u8]) -> Made {
     match op {
         6 => commands::get_configuration(out),
         7 => commands::read_disc_information(out),
         8 => commands::read_track_information(out),
         9 => commands::mode_select(out),
-        10 => commands::synchronize_cache(out),
+        10 => commands::synchronize_cache(set_at(b, 3), out),
         11 => commands::send_cue_sheet(four_at(b, 3) as usize, out),
         12 => commands::write(address_at(b, 3), BlockCount(four_at(b, 11)), out),
-        13 => commands::close_track_session(one_at(b, 3), TrackNumber(two_at(b, 4)), out),
+        13 => commands::close_track_session(
+            set_at(b, 6),
+            one_at(b, 3),
+            TrackNumber(two_at(b, 4)),
+            out,
+        ),
         14 => write_reply(one_at(b, 3) == 0, from(b, 4), out),
         15 => write_order(order_at(b, 3), out),
         16 => mode_data(order_at(b, 3), kind_at(b, 501), out),
-        _ => make_sheet(order_at(b, 3), out),
+        17 => make_sheet(order_at(b, 3), out),
+        18 => commands::test_unit_ready(out),
+        _ => commands::request_sense(out),
     }
 }
 
@@ -55,7 +63,7 @@ fn made_in(op: u32, b: &[u8], lent: &mut [u8], line: &mut [u8]) -> usize {
     put_bytes(line, bytes, lent)
 }
 
-// Answers a request of operation 6 to 17.
+// Answers a request of operation 6 to 19.
 pub(crate) fn made_line(op: u32, b: &[u8], line: &mut [u8]) -> usize {
     let mut space = [0xA5u8; 4096];
     let n = lent_length(b);

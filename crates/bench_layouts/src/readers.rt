@@ -8,6 +8,7 @@ use crate::line::put_text;
 use crate::request::address_at;
 use crate::request::from;
 use crate::request::one_at;
+use mmc::bytes::flag;
 use mmc::order::Kind;
 use mmc::order::Method;
 use mmc::order::Order;
@@ -89,12 +90,8 @@ fn method_number(m: Method) -> u64 {
 }
 
 // The number of the flags.
-fn flags_number(keep: bool, protect: bool) -> u64 {
-    if keep {
-        if protect { 3 } else { 1 }
-    } else {
-        if protect { 2 } else { 0 }
-    }
+fn flags_number(o: Order) -> u64 {
+    (flag(o.keep, 1) + flag(o.protect, 2) + flag(o.immed, 4)) as u64
 }
 
 // Puts a track: its kind where kinds are asked for, and its length.
@@ -127,7 +124,7 @@ fn put_order(line: &mut [u8], o: Order) -> usize {
     let count = o.count;
     let tracks = o.tracks;
     let flags = put_first(line, method_number(method));
-    let counted = put_next(line, flags, flags_number(o.keep, o.protect));
+    let counted = put_next(line, flags, flags_number(o));
     let listed = put_next(line, counted, count as u64);
     put_tracks(line, listed, true, count, tracks)
 }

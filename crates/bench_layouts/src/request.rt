@@ -10,17 +10,20 @@
 //    7 read-disc-information
 //    8 read-track-information
 //    9 mode-select
-//   10 synchronize-cache
+//   10 synchronize-cache        Immed at 3
 //   11 send-cue-sheet           length (4 bytes) at 3
 //   12 write                    address (8) at 3, count (4) at 11
-//   13 close-track-session      function at 3, track (2) at 4
+//   13 close-track-session      function at 3, track (2) at 4, Immed at 6
 //   14 reply-write              status, 0 good or 1 failed, at 3; bytes from 4 on
 //   15 order-write              order at 3
 //   16 page                     order at 3, kind at 501
 //   17 sheet                    order at 3
+//   18 test-unit-ready
+//   19 request-sense
 //
-// An order takes 498 bytes: method (1 TAO, 2 SAO), flags (1 keep, 2 protect), count, and 99 rows of
-// kind (0 audio, 1 data) and length (4 bytes).
+// Immed is set where its byte is not 0.
+// An order takes 498 bytes: method (1 TAO, 2 SAO), flags (1 keep, 2 protect, 4 Immed), count, and 99
+// rows of kind (0 audio, 1 data) and length (4 bytes).
 use crate::signed::signed;
 use mmc::bytes::byte_at;
 use mmc::bytes::number16;
@@ -49,6 +52,11 @@ pub(crate) fn operation(b: &[u8]) -> u32 {
 // The byte at an index.
 pub(crate) fn one_at(b: &[u8], at: usize) -> u8 {
     byte_at(b, at) as u8
+}
+
+// Whether the byte at an index is not 0.
+pub(crate) fn set_at(b: &[u8], at: usize) -> bool {
+    byte_at(b, at) != 0
 }
 
 // The number in the two bytes at an index.
@@ -130,6 +138,7 @@ pub(crate) fn order_at(b: &[u8], at: usize) -> Order {
         method: method,
         keep: flags % 2 == 1,
         protect: flags / 2 % 2 == 1,
+        immed: flags / 4 % 2 == 1,
         count: count,
         tracks: tracks,
     }

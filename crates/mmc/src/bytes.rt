@@ -28,8 +28,8 @@ pub fn number32(b: &[u8]) -> u32
     byte_at(b, 0) * 16777216 + byte_at(b, 1) * 65536 + byte_at(b, 2) * 256 + byte_at(b, 3)
 }
 
-// A byte with the value n where a flag is set, else 0.
-pub(crate) fn flag(set: bool, n: u8) -> u8
+// n where the flag is set, else 0.
+pub fn flag(set: bool, n: u8) -> u8
     ensures { λ r. ⌜ (r ≡ if set n 0) × (r ≤ n) ⌝ }
 {
     if set { n } else { 0 }

@@ -117,8 +117,8 @@ pub fn write(a: BlockAddress, n: BlockCount, out: &mut [u8]) -> Made
 pub fn synchronize_cache(immed: bool, out: &mut [u8]) -> Made
     ensures { λ r. ⌜ Fills (pass (synchronizeCache immed)) r (now (out .entry)) (now (out .exit)) ⌝ }
 {
-    let at_once = flag(immed, 0x02);
-    let cdb = [0x35u8, at_once, 0, 0, 0, 0, 0, 0, 0, 0];
+    let byte_1 = flag(immed, 0x02);
+    let cdb = [0x35u8, byte_1, 0, 0, 0, 0, 0, 0, 0, 0];
     fill(&cdb, out)
 }
 
@@ -134,8 +134,8 @@ pub fn close_track_session(immed: bool, function: u8, track: TrackNumber, out: &
     }
     let high = (track.0 / 256) as u8;
     let low = (track.0 % 256) as u8;
-    let at_once = flag(immed, 0x01);
-    let cdb = [0x5Bu8, at_once, function, 0, high, low, 0, 0, 0, 0];
+    let byte_1 = flag(immed, 0x01);
+    let cdb = [0x5Bu8, byte_1, function, 0, high, low, 0, 0, 0, 0];
     fill(&cdb, out)
 }
 
@@ -147,7 +147,7 @@ pub fn test_unit_ready(out: &mut [u8]) -> Made
     fill(&cdb, out)
 }
 
-// 03h: why the drive is not ready, in 18 bytes of sense data.
+// 03h: asks for 18 bytes of sense data, which tell the progress.
 pub fn request_sense(out: &mut [u8]) -> Made
     ensures { λ r. ⌜ Fills (pass requestSense) r (now (out .entry)) (now (out .exit)) ⌝ }
 {
