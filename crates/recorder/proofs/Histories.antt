@@ -6,7 +6,7 @@ use mathlib.Core.List.{List, [], _∷_, _++_}
 use Prim.Native.Nat.{ℕ, suc, _+_, _≤_, _<_, min}
 use native.Mathlib.Omega.{arith}
 use lib.Dec.{lit≤}
-use lib.ListN.{length, getD}
+use lib.ListN.{length, getD, length-append}
 use Rattle.mmc.specs.Bytes.{if}
 use Rattle.mmc.specs.Refusals.{Outcome, pass, refuse}
 use Rattle.mmc.specs.OrderBlock.{readOrder}
@@ -20,12 +20,12 @@ use Rattle.recorder.specs.declared.job.Poll.the-variants.{Off}
 use Rattle.recorder.specs.declared.job.Recorder.{Recorder}
 use Rattle.recorder.specs.declared.job.Step.{Step}
 use Rattle.recorder.specs.Answers.{Why, because, Ruling, issue, done, stop, madeFor, bytesIn}
-use Rattle.recorder.specs.Script.{isPoll, stepwise, Block}
+use Rattle.recorder.specs.Script.{isPoll, stepwise, expected, Block}
 use Rattle.recorder.specs.Exchanges.{Exchange, recorded, occupied, polling, progress, seen, named}
 use Rattle.recorder.specs.Rules.{left, none, found, refusal, ruled, exchanged, play, orderedIn, AllClosed}
 use Rattle.recorder.specs.Job.{Next, nextIn, dueAt, commandOf, mostCommands, latestProgress, unchanged, restsAt, validOf, idleRecorder, takenAs, takeOf, giveOf}
 use Rattle.recorder.specs.History.{History, taken, given, givenAll, history, commandIn, commands, going, as-done, as-stop, ending, ended, Accompanied, Each, OfAnswer, Every, Fresh, Unskipped, AllWell, unpolled, answered, AllGood, Whole, Takes, Gives, Rests}
-use Rattle.recorder.proofs.Lists.{clash, false-true}
+use Rattle.recorder.proofs.Lists.{if-yes, if-no, clash, false-true}
 use Rattle.recorder.proofs.Turns.{Played, played, progress-seen}
 use Rattle.recorder.proofs.Scripts.{script-length}
 use Rattle.recorder.proofs.Rulings.{ruled-at, rule-order, rule-done, due-poll, each-unskipped, rule-stop}
@@ -238,6 +238,15 @@ ended-stop w (issue c) = (λ e. clash (cc), λ e. clash (cc))
 ended-stop w done = (λ e. clash (cc), λ e. clash (cc))
 ended-stop w (stop x) = (λ e. let z : x ≡ w = cc in ap stop z, λ e. let z : x ≡ w = cc in ap as-stop z)
 
+waiting-one : (a : Ruling) → ending a ≡ going → length (commandIn a) ≡ 1
+waiting-one (issue c) x = refl
+waiting-one done x = clash (cc)
+waiting-one (stop w) x = clash (cc)
+
+answered-length : (es : List Exchange) → length (answered es) ≡ length es
+answered-length [] = refl
+answered-length (e ∷ es) = ap suc (answered-length es)
+
 unpolled-append : (cs ds : List Command) → unpolled (cs ++ ds) ≡ unpolled cs + unpolled ds
 unpolled-append [] ds = omega arith
 unpolled-append (c ∷ cs) ds = go (isPoll (c .op)) (unpolled-append cs ds)
@@ -281,19 +290,57 @@ module _ (b : List ℕ) (rs : List Reply) where
     given-unpolled : unpolled (commands (h .answers)) ≡ unpolled (commandIn (ruled (pass o) es)) + unpolled (answered es)
     given-unpolled = ap unpolled given-so ∙ unpolled-append (commandIn (ruled (pass o) es)) (answered es)
 
+    given-length : length (commands (h .answers)) ≡ length (commandIn (ruled (pass o) es)) + length es
+    given-length =
+        let a = length-append (commandIn (ruled (pass o) es)) (answered es) in
+        let c = ap length given-so in
+        let d = answered-length es in
+        omega arith
+
     all-good-by : Progressed o (length rs) es → AllGood o (length rs) es (h .answers)
     all-good-by (under-way x l p c n) =
         let a = given-unpolled in
+        let i : min (unpolled (answered es) + 1) (expected o) ≡ unpolled (answered es) + 1 = omega arith in
         record {
-          given-count = ?;
+          given-count = omega arith ∙ sym (if-no _ _ p ∙ i);
           done-at = λ y z. absurd (omega arith);
           not-before = λ y. so-ended ∙ x;
           not-polling = λ y. absurd (false-true (sym p ∙ y));
           each-reply = λ y. l;
-          no-polls = ?;
+          no-polls = λ f.
+              let u = no-polls o es f (played o rs) in
+              let g = given-length in
+              let w = waiting-one (ruled (pass o) es) x in
+              (p, (omega arith, omega arith));
         }
-    all-good-by (polled x l p c n) = ?
-    all-good-by (at-end x l p c n) = ?
+    all-good-by (polled x l p c n) =
+        let a = given-unpolled in
+        record {
+          given-count = omega arith ∙ sym (if-yes _ _ p);
+          done-at = λ y z. absurd (false-true (sym z ∙ p));
+          not-before = λ y. so-ended ∙ x;
+          not-polling = λ y. so-ended ∙ x;
+          each-reply = λ y. l;
+          no-polls = λ f. absurd (false-true (sym (never-polling es) ∙ ap (λ (z : Bool). polling z es) (sym f) ∙ p));
+        }
+    all-good-by (at-end x l p c n) =
+        let a = given-unpolled in
+        let i : min (unpolled (answered es) + 1) (expected o) ≡ expected o = omega arith in
+        record {
+          given-count = omega arith ∙ sym (if-no _ _ p ∙ i);
+          done-at = λ y z. so-ended ∙ x;
+          not-before = λ y. absurd (omega arith);
+          not-polling = λ y. absurd (false-true (sym p ∙ y));
+          each-reply = λ y. absurd (is-done-over (sym so-ended ∙ y));
+          no-polls = λ f.
+              let u = no-polls o es f (played o rs) in
+              let g = given-length in
+              let w : length (commandIn (ruled (pass o) es)) ≡ 0 = ap (λ (r : Ruling). length (commandIn r)) (ended-done (ruled (pass o) es) .0 x) in
+              (p, (omega arith, omega arith));
+        }
+      where
+        is-done-over : ending (ruled (pass o) es) ≡ going → ⊥
+        is-done-over y = clash (cc (sym x ∙ y))
 
   good-ends : (o : Order) → readOrder b ≡ pass o → AllWell (h .exchanges) → refusal (pass o) (h .exchanges) ≡ none → AllGood o (length rs) (h .exchanges) (h .answers)
   good-ends o e g u =
