@@ -31,6 +31,7 @@ use Rattle.recorder.proofs.Scripts.{script-length}
 use Rattle.recorder.proofs.Rulings.{ruled-at, rule-order, rule-done, due-poll, each-unskipped, rule-stop}
 use Rattle.recorder.proofs.Apart.{rule-apart}
 use Rattle.recorder.proofs.Goods.{never-polling, no-polls, Progressed, under-way, polled, at-end, rule-good}
+use Rattle.recorder.proofs.Witness.{can-pass}
 use Rattle.recorder.proofs.Behind.{Sized}
 use Rattle.recorder.proofs.Moves.{at, behindAt, planAt}
 use Rattle.recorder.proofs.Makes.{give-made, take-made}

@@ -12,6 +12,6 @@ pub mod Makes
 pub mod States
 pub mod Orders
 pub mod Steps
-pub mod Histories
 pub mod Witness
+pub mod Histories
 pub mod Bench

@@ -14,7 +14,7 @@ use Rattle.mmc.specs.declared.units.FrameCount.{FrameCount}
 use Rattle.recorder.specs.Answers.{Why, because}
 use Rattle.recorder.specs.Script.{Block, blocks, gather}
 use Rattle.recorder.specs.Exchanges.{upward}
-use Rattle.recorder.specs.Rules.{refused, Test, tested, none, found, refusedBy}
+use Rattle.recorder.specs.Rules.{onward, refused, Test, tested, none, found, refusedBy}
 
 -- ---- tests
 
@@ -62,9 +62,9 @@ passed-clear (t ∷ ts) e = go (t .applies) refl e (λ q. passed-clear ts q)
     go true q e c = absurd (none-found _ (sym e))
     go false q e c = (q, c e)
 
-pub clear-passes : (ts : List Test) → Clear ts → refusedBy (tested ts) ≡ none
+pub clear-passes : (ts : List Test) → Clear ts → tested ts ≡ onward []
 clear-passes [] c = refl
-clear-passes (t ∷ ts) c = ap refusedBy (if-no _ _ (c .0)) ∙ clear-passes ts (c .1)
+clear-passes (t ∷ ts) c = if-no _ _ (c .0) ∙ clear-passes ts (c .1)
 
 -- ---- gathering
 

@@ -66,7 +66,7 @@ pub data Moved (o : Order) (x : Op) (p : Poll) (v : Seen) (n : Named) (r : Readi
 goes-sao : (o : Order) (t : ℕ) → Sized o → InSession o → t ≤ o .count → Goes Sao o t
 goes-sao o t z i l = (l, λ h. let a = z .all in long-at o t (i .long) (omega arith))
 
-standing-goes : (m : Method) (o : Order) (x : Op) (v : Seen) (n : Named) → Sized o → Standing m o x v n → GoesOn m o x
+pub standing-goes : (m : Method) (o : Order) (x : Op) (v : Seen) (n : Named) → Sized o → Standing m o x v n → GoesOn m o x
 standing-goes m o GetConfiguration v n z s = tt
 standing-goes m o ReadDiscInformation v n z s = tt
 standing-goes m o (ReadTrackInformation t) v n z s = tt

@@ -1,5 +1,5 @@
 -- Good replies that the rules pass exist for every order that passes 8, 9 and the lead-out limit, on every disc that passes 5 and 6:
--- each 52h names where the track before ends, and all blocks are free.
+-- each 52h names where the track before ends, and all blocks are free; the first round of each polling is its last.
 use mathlib.Core.Path.{_≡_, refl, sym, ap, subst, _∙_}
 use mathlib.Core.Bool.{Bool, true, false, not, _&&_}
 use mathlib.Core.List.{List, [], _∷_, _++_}
@@ -20,25 +20,30 @@ use Rattle.mmc.specs.declared.order.Track.{Track}
 use Rattle.mmc.specs.declared.order.Method.{Method}
 use Rattle.mmc.specs.declared.order.Method.the-variants.{Tao, Sao}
 use Rattle.recorder.specs.declared.script.Op.{Op}
-use Rattle.recorder.specs.declared.script.Op.the-variants.{GetConfiguration, ReadDiscInformation, ReadTrackInformation, ModeSelect, SendCueSheet, Write, SynchronizeCache, CloseTrack, CloseSession}
+use Rattle.recorder.specs.declared.script.Op.the-variants.{GetConfiguration, ReadDiscInformation, ReadTrackInformation, ModeSelect, SendCueSheet, Write, SynchronizeCache, CloseTrack, CloseSession, TestUnitReady, RequestSense}
+use Rattle.recorder.specs.declared.places.Following.{Following}
+use Rattle.recorder.specs.declared.places.Following.the-variants.{Next as Then, Nothing}
+use Rattle.recorder.specs.declared.job.Poll.{Poll}
+use Rattle.recorder.specs.declared.job.Poll.the-variants.{Off, Ready, Sense}
 use Rattle.recorder.specs.declared.replies.TrackInformation.{TrackInformation}
 use Rattle.recorder.specs.declared.replies.Reading.{Reading}
-use Rattle.recorder.specs.declared.replies.Reading.the-variants.{Malformed, Profile, Status, Information, Unread}
+use Rattle.recorder.specs.declared.replies.Reading.the-variants.{Malformed, Profile, Status, Information, ProgressIndication, Unread}
 use Rattle.recorder.specs.declared.exchanges.Seen.{Seen}
-use Rattle.recorder.specs.Answers.{Ruling, issue, done, stop}
-use Rattle.recorder.specs.Replies.{wholeProfile, readProfile, wholeDisc, readStatus, wholeInformation, informationOf, readInformation, reading}
-use Rattle.recorder.specs.Script.{code, gather, write, blocks, blocksFrom, blocksIn, script, expected}
-use Rattle.recorder.specs.Exchanges.{Exchange, Named, see, seen, named}
-use Rattle.recorder.specs.Rules.{otherProfile, lastStatus, unsuitable, unusable, still, leadOut, lastFrame, fits, openingTests, laterTests, trackTests, judge, judged, move, left, none, refusedBy, firstRefused, ruled, exchanged, play}
-use Rattle.recorder.specs.History.{as-done, ending, AllMarkedGood, Bytes, AllBytes, Passing, Recordable, Suitable}
-use Rattle.recorder.proofs.Lists.{if-yes, false-true, none-found, clash, Clear, clear-passes, blocks-length}
-use Rattle.recorder.proofs.Turns.{made, isAsking, turn}
+use Rattle.recorder.specs.Answers.{Ruling}
+use Rattle.recorder.specs.Replies.{wholeProfile, readProfile, wholeDisc, readStatus, wholeInformation, informationOf, readInformation, progressOf, readProgress, reading}
+use Rattle.recorder.specs.Script.{code, isClosing, isPolled, gather, write, blocks, blocksFrom, blocksIn, script}
+use Rattle.recorder.specs.Exchanges.{Exchange, Named, see, seen, name, named}
+use Rattle.recorder.specs.Rules.{otherProfile, lastStatus, unsuitable, unusable, still, leadOut, lastFrame, fits, openingTests, laterTests, Judgement, onward, trackTests, pollsIf, judge, judged, move, left, none, refusedBy, firstRefused, ruled, exchanged, play}
+use Rattle.recorder.specs.Places.{afterIn}
+use Rattle.recorder.specs.Job.{dueAt}
+use Rattle.recorder.specs.History.{AllMarkedGood, Bytes, AllBytes, Passing, Recordable, Suitable}
+use Rattle.recorder.proofs.Lists.{if-yes, if-no, false-true, both, clash, Clear, clear-passes, blocks-length}
+use Rattle.recorder.proofs.Turns.{made, isAsking, Reads, reads}
 use Rattle.recorder.proofs.Scripts.{by, each-blocks}
-use Rattle.recorder.proofs.Rulings.{refused-next, ruled-at, done-left}
-use Rattle.recorder.proofs.Goods.{one-less, Progressed, under-way, at-end, rule-good}
-use Rattle.recorder.proofs.Behind.{Sized, tracksFrom, behind, next-track}
-use Rattle.recorder.proofs.Standing.{blocksAfter, Standing}
-use Rattle.recorder.proofs.Moves.{Moved, on-to, stops, ends, moved}
+use Rattle.recorder.proofs.Rulings.{refused-next, ruled-at}
+use Rattle.recorder.proofs.Behind.{Sized, tracksFrom, behind, onto, next-track, goes-on}
+use Rattle.recorder.proofs.Standing.{blocksAfter, Standing, StandingThen, standing-closing, stood, stood-polled}
+use Rattle.recorder.proofs.Moves.{planAt, Stood, standing-goes}
 
 -- ---- the bytes of the replies
 
@@ -154,6 +159,8 @@ room-on o (Write t f c) v n s r q =
 room-on o (SynchronizeCache t) v n s r q = r
 room-on o (CloseTrack t) v n s r q = r
 room-on o CloseSession v n s r q = r
+room-on o TestUnitReady v n s r q = absurd s
+room-on o RequestSense v n s r q = absurd s
 
 module _ (o : Order) (z : Sized o) (ok : Recordable o) (p q : ℕ) (su : Suitable o p q) where
   low-profile : p < 256
@@ -179,18 +186,23 @@ module _ (o : Order) (z : Sized o) (ok : Recordable o) (p q : ℕ) (su : Suitabl
   abbrev seventh : Op → ℕ
   seventh x = if (eqb (code x) 0x46) p 9
 
+  -- 03h is told that there is no progress
   abbrev told : Op → Seen → List ℕ
-  told x v = naming (seventh x) q (v .at .0 - leadFrames) all
+  told x v = if (eqb (code x) 0x03) (replicate 18 0) (naming (seventh x) q (v .at .0 - leadFrames) all)
 
   abbrev replyTo : Op → Seen → Reply
   replyTo x v = replyOf true (told x v)
 
   told-bytes : (x : Op) (v : Seen) → Bytes (told x v)
-  told-bytes x v = let l = low-status in naming-bytes (seventh x) q (v .at .0 - leadFrames) all (go (eqb (code x) 0x46)) (omega arith)
+  told-bytes x v = by-code (eqb (code x) 0x03)
     where
       go : (b : Bool) → if b p 9 < 256
       go true = low-profile
       go false = lit< tt
+
+      by-code : (b : Bool) → Bytes (if b (replicate 18 0) (naming (seventh x) q (v .at .0 - leadFrames) all))
+      by-code true = low-bytes (low-zeros 18)
+      by-code false = let l = low-status in naming-bytes (seventh x) q (v .at .0 - leadFrames) all (go (eqb (code x) 0x46)) (omega arith)
 
   -- ---- the tests of a 52h
 
@@ -258,12 +270,15 @@ module _ (o : Order) (z : Sized o) (ok : Recordable o) (p q : ℕ) (su : Suitabl
   Known (SynchronizeCache t) v = Both v
   Known (CloseTrack t) v = Both v
   Known CloseSession v = Both v
+  Known TestUnitReady v = Both v
+  Known RequestSense v = Both v
 
   -- a reply that passes, and what is known and ahead then
   record Told (x : Op) (v : Seen) (r : Reading) : Type 0 where
-    passes : refusedBy (judge o v x r) ≡ none
+    passes : judge o v x r ≡ pollsIf (isPolled (o .immed) x)
     knows : (l : List Op) (y : Op) → behind o x ≡ y ∷ l → Known y (see (o .method) x r v)
     ends-known : behind o x ≡ [] → Both (see (o .method) x r v)
+    closes-known : isClosing x ≡ true → Both (see (o .method) x r v)
     room : RoomBy (o .method) o (see (o .method) x r v .at) (behind o x)
 
   all-known : (y : Op) (v : Seen) → Both v → Known y v
@@ -276,6 +291,8 @@ module _ (o : Order) (z : Sized o) (ok : Recordable o) (p q : ℕ) (su : Suitabl
   all-known (SynchronizeCache t) v b = b
   all-known (CloseTrack t) v b = b
   all-known CloseSession v b = b
+  all-known TestUnitReady v b = b
+  all-known RequestSense v b = b
 
   same-room : (m : Method) (at : FrameCount) (x : Op) (l : List Op) → ahead (x ∷ l) ≡ ahead l → RoomBy m o at (x ∷ l) → RoomBy m o at l
   same-room Tao at x l e r = omega arith
@@ -299,24 +316,25 @@ module _ (o : Order) (z : Sized o) (ok : Recordable o) (p q : ℕ) (su : Suitabl
 
   told-unread : (x : Op) (v : Seen) (n : Named) → Standing (o .method) o x v n → Both v → RoomBy (o .method) o (v .at) (x ∷ behind o x) → isAsking x ≡ false → Told x v Unread
   told-unread x v n s k r e =
-      record { passes = refl; knows = λ l y f. all-known y _ k; ends-known = λ f. k; room = unread-room (o .method) x v n s r e }
+      record { passes = refl; knows = λ l y f. all-known y _ k; ends-known = λ f. k; closes-known = λ f. k; room = unread-room (o .method) x v n s r e }
 
   told-next : (x : Op) (v : Seen) (n : Named) → Standing (o .method) o x v n → Known x v → RoomBy (o .method) o (v .at) (x ∷ behind o x) → ToldBy x v
   told-next GetConfiguration v n s k r =
       subst (Told GetConfiguration v) (sym (named-profile p q (v .at .0 - leadFrames) all))
-      (record { passes = refl; knows = λ l y f. first-known y (cc); ends-known = λ f. clash (cc); room = same-room (o .method) (v .at) GetConfiguration _ refl r })
+      (record { passes = refl; knows = λ l y f. first-known y (cc); ends-known = λ f. clash (cc); closes-known = λ f. absurd (false-true f); room = same-room (o .method) (v .at) GetConfiguration _ refl r })
     where
       first-known : (y : Op) → ReadDiscInformation ≡ y → Known y (see (o .method) GetConfiguration (Profile p) v)
       first-known y e = subst (λ (x : Op). Known x (see (o .method) GetConfiguration (Profile p) v)) e refl
   told-next ReadDiscInformation v n s k r =
       subst (Told ReadDiscInformation v) (sym (named-status 9 q (v .at .0 - leadFrames) all low-status))
-      (record { passes = refl; knows = λ l y f. all-known y _ (k, refl); ends-known = λ f. (k, refl); room = same-room (o .method) (v .at) ReadDiscInformation _ refl r })
+      (record { passes = refl; knows = λ l y f. all-known y _ (k, refl); ends-known = λ f. (k, refl); closes-known = λ f. absurd (false-true f); room = same-room (o .method) (v .at) ReadDiscInformation _ refl r })
   told-next (ReadTrackInformation t) v n s k r =
       subst (Told (ReadTrackInformation t) v) (sym (named-whole 9 q (v .at .0 - leadFrames) all))
       (record {
         passes = clear-passes (trackTests o (t .0) v (informed (v .at .0))) (clear-52 (o .method) refl t v n s r (k .0) (k .1));
         knows = λ l y f. all-known y _ k;
         ends-known = λ f. k;
+        closes-known = λ f. absurd (false-true f);
         room = start-room (o .method) t v _ (early (o .method) t v n _ s r) r;
       })
   told-next (ModeSelect t) v n s k r = told-unread (ModeSelect t) v n s k r refl
@@ -325,16 +343,37 @@ module _ (o : Order) (z : Sized o) (ok : Recordable o) (p q : ℕ) (su : Suitabl
   told-next (SynchronizeCache t) v n s k r = told-unread (SynchronizeCache t) v n s k r refl
   told-next (CloseTrack t) v n s k r = told-unread (CloseTrack t) v n s k r refl
   told-next CloseSession v n s k r = told-unread CloseSession v n s k r refl
+  told-next TestUnitReady v n s k r = absurd s
+  told-next RequestSense v n s k r = absurd s
 
   -- ---- the exchanges that such replies lead to
 
-  data Stage (es : List Exchange) : Type 0 where
-    at-op : (x : Op) → left o es ≡ x ∷ behind o x → Standing (o .method) o x (seen (o .method) es) (named es) → Known x (seen (o .method) es) → RoomBy (o .method) o (seen (o .method) es .at) (x ∷ behind o x) → Stage es
-    over : left o es ≡ [] → Both (seen (o .method) es) → Stage es
+  -- while a polling is under way the operation that it polls is already off
+  abbrev RoomAt : Poll → Op → FrameCount → Type 0
+  RoomAt Off x at = RoomBy (o .method) o at (x ∷ behind o x)
+  RoomAt Ready x at = RoomBy (o .method) o at (behind o x)
+  RoomAt Sense x at = RoomBy (o .method) o at (behind o x)
+
+  abbrev KnownAt : Poll → Op → Seen → Type 0
+  KnownAt Off x v = Known x v
+  KnownAt Ready x v = Both v
+  KnownAt Sense x v = Both v × (v .ready ≡ true)
+
+  data Stage (l : List Op) (v : Seen) (n : Named) : Type 0 where
+    at-op : (x : Op) (p : Poll) → l ≡ planAt o x p → Stood o x p v n → KnownAt p x v → RoomAt p x (v .at) → Stage l v n
+    over : l ≡ [] → Both v → Stage l v n
 
   record Packed (es : List Exchange) : Type 0 where
     unrefused : firstRefused o es ≡ none
-    stage : Stage es
+    stage : Stage (left o es) (seen (o .method) es) (named es)
+
+  -- the replies that are still to come, if each polling takes one round
+  abbrev weight : Op → ℕ
+  weight x = if (isPolled (o .immed) x) 3 1
+
+  abbrev weigh : List Op → ℕ
+  weigh [] = 0
+  weigh (x ∷ l) = weight x + weigh l
 
   abbrev replyFor : List Op → Seen → Reply
   replyFor [] v = replyTo GetConfiguration v
@@ -343,37 +382,116 @@ module _ (o : Order) (z : Sized o) (ok : Recordable o) (p q : ℕ) (su : Suitabl
   abbrev reply : List Exchange → Reply
   reply es = replyFor (left o es) (seen (o .method) es)
 
-  -- an operation is answered
-  answered : (es : List Exchange) (x : Op) → firstRefused o es ≡ none → left o es ≡ x ∷ behind o x → Standing (o .method) o x (seen (o .method) es) (named es) → Told x (seen (o .method) es) (reading x (replyTo x (seen (o .method) es))) → Packed (made o es x (replyTo x (seen (o .method) es)) ∷ es)
-  answered es x u e s t =
-      record {
-        unrefused = refused-next o es (made o es x (replyTo x (seen (o .method) es))) none u (t .passes);
-        stage = go (moved o x (seen (o .method) es) (named es) z s (replyTo x (seen (o .method) es)));
-      }
+  -- to the operation behind one, or to the end
+  behind-stage : (x : Op) (v w : Seen) (n k : Named) → Standing (o .method) o x v n → StandingThen (o .method) o (afterIn o x) w k → ((l : List Op) (y : Op) → behind o x ≡ y ∷ l → Known y w) → (behind o x ≡ [] → Both w) → RoomBy (o .method) o (w .at) (behind o x) → Stage (behind o x) w k
+  behind-stage x v w n k s h f g r = go (afterIn o x) refl h
     where
-      -- the reply passes, so what is left is what comes behind
-      passed-on : move (judged o es (made o es x (replyTo x (seen (o .method) es)))) (x ∷ behind o x) ≡ behind o x
-      passed-on = one-less x (behind o x) true _ (turn o es x (replyTo x (seen (o .method) es))) refl (t .passes)
+      on : (a : Following) → afterIn o x ≡ a → behind o x ≡ onto o a
+      on a e = goes-on o x z (standing-goes (o .method) o x v n z s) ∙ ap (onto o) e
 
-      then-left : left o (made o es x (replyTo x (seen (o .method) es)) ∷ es) ≡ behind o x
-      then-left = ap (move (judged o es (made o es x (replyTo x (seen (o .method) es))))) e ∙ passed-on
+      go : (a : Following) → afterIn o x ≡ a → StandingThen (o .method) o (afterIn o x) w k → Stage (behind o x) w k
+      go (Then y) e h =
+          at-op y Off (on (Then y) e) (record { standing = subst (λ (a : Following). StandingThen (o .method) o a w k) e h; polled-at = tt }) (f (behind o y) y (on (Then y) e))
+          (subst (λ (l : List Op). RoomBy (o .method) o (w .at) l) (on (Then y) e) r)
+      go Nothing e h = over (on Nothing e) (g (on Nothing e))
 
-      go : Moved o x (seen (o .method) es) (named es) (reading x (replyTo x (seen (o .method) es))) → Stage (made o es x (replyTo x (seen (o .method) es)) ∷ es)
-      go (on-to y a j m k) =
-          let f : behind o x ≡ y ∷ behind o y = sym passed-on ∙ m in
-          at-op y (then-left ∙ f) k (t .knows (behind o y) y f) (subst (λ (l : List Op). RoomBy (o .method) o (see (o .method) x (reading x (replyTo x (seen (o .method) es))) (seen (o .method) es) .at) l) f (t .room))
-      go (stops w a j) = absurd (none-found w (sym (t .passes) ∙ j))
-      go (ends a j m) = let f : behind o x ≡ [] = sym passed-on ∙ m in over (then-left ∙ f) (t .ends-known f)
+  -- what a reply leads to: a judgement that refuses nothing, and one reply less to come
+  record Led (l : List Op) (j : Judgement) (w : Seen) (k : Named) : Type 0 where
+    unrefusing : refusedBy j ≡ none
+    stage : Stage (move j l) w k
+    lighter : weigh (move j l) + 1 ≡ weigh l
 
-  packed-turn : (es : List Exchange) → Packed es → Packed (exchanged (ruled (pass o) es) (reply es) es)
+  -- an operation is answered
+  led-off : (x : Op) (v : Seen) (n : Named) (r : Reading) → Standing (o .method) o x v n → Reads x true r → Told x v r → Led (x ∷ behind o x) (judge o v x r) (see (o .method) x r v) (name x r n)
+  led-off x v n r s w t = subst (λ (j : Judgement). Led (x ∷ behind o x) j (see (o .method) x r v) (name x r n)) (sym (t .passes)) (go (isPolled (o .immed) x) refl)
+    where
+      go : (b : Bool) → isPolled (o .immed) x ≡ b → Led (x ∷ behind o x) (pollsIf b) (see (o .method) x r v) (name x r n)
+      go true q =
+          let c : isClosing x ≡ true = both (isClosing x) _ q .0 in
+          let g : weight x ≡ 3 = if-yes _ _ q in
+          record {
+            unrefusing = refl;
+            stage = at-op x Ready refl (record { standing = standing-closing (o .method) o x v _ n _ s c; polled-at = q }) (t .closes-known c) (t .room);
+            lighter = omega arith;
+          }
+      go false q =
+          let g : weight x ≡ 1 = if-no _ _ q in
+          record {
+            unrefusing = refl;
+            stage = behind-stage x v _ n _ s (stood o x r v n z s w (ap refusedBy (t .passes))) (t .knows) (t .ends-known) (t .room);
+            lighter = omega arith;
+          }
+
+  -- so is 00h
+  led-ready : (x : Op) (v : Seen) (n : Named) → Standing (o .method) o x v n → isPolled (o .immed) x ≡ true → Both v → RoomBy (o .method) o (v .at) (behind o x) → Led (planAt o x Ready) (judge o v TestUnitReady Unread) (see (o .method) TestUnitReady Unread v) n
+  led-ready x v n s c b r =
+      record {
+        unrefusing = refl;
+        stage = at-op x Sense refl (record { standing = standing-closing (o .method) o x v _ n n s (both (isClosing x) _ c .0); polled-at = c }) (b, refl) r;
+        lighter = omega arith;
+      }
+
+  -- and 03h
+  led-sense : (x : Op) (v : Seen) (n : Named) → Standing (o .method) o x v n → isPolled (o .immed) x ≡ true → Both v → v .ready ≡ true → RoomBy (o .method) o (v .at) (behind o x) → Led (planAt o x Sense) (judge o v RequestSense (ProgressIndication 0)) (see (o .method) RequestSense (ProgressIndication 0) v) n
+  led-sense x v n s c b f r = subst (λ (j : Judgement). Led (planAt o x Sense) j (see (o .method) RequestSense (ProgressIndication 0) v) n) (sym last) (ended)
+    where
+      last : judge o v RequestSense (ProgressIndication 0) ≡ onward []
+      last = ap (λ (y : Bool). pollsIf (not (y && eqb 0 0))) f
+
+      ended : Led (planAt o x Sense) (onward []) (see (o .method) RequestSense (ProgressIndication 0) v) n
+      ended =
+          record {
+            unrefusing = refl;
+            stage = behind-stage x v _ n n s (stood-polled o x v _ n n s (both (isClosing x) _ c .0)) (λ l y e. all-known y _ b) (λ e. b) r;
+            lighter = omega arith;
+          }
+
+  no-progress : (v : Seen) → reading RequestSense (replyTo RequestSense v) ≡ ProgressIndication 0
+  unfolding readProgress progressOf
+  no-progress v = refl
+
+  led : (x : Op) (p : Poll) (v : Seen) (n : Named) → Stood o x p v n → KnownAt p x v → RoomAt p x (v .at) → Led (planAt o x p) (judge o v (dueAt x p) (reading (dueAt x p) (replyTo (dueAt x p) v))) (see (o .method) (dueAt x p) (reading (dueAt x p) (replyTo (dueAt x p) v)) v) (name (dueAt x p) (reading (dueAt x p) (replyTo (dueAt x p) v)) n)
+  led x Off v n s k r = led-off x v n (reading x (replyTo x v)) (s .standing) (reads x (replyTo x v)) (told-next x v n (s .standing) k r)
+  led x Ready v n s k r = led-ready x v n (s .standing) (s .polled-at) k r
+  led x Sense v n s k r =
+      subst (λ (a : Reading). Led (planAt o x Sense) (judge o v RequestSense a) (see (o .method) RequestSense a v) (name RequestSense a n)) (sym (no-progress v)) (led-sense x v n (s .standing) (s .polled-at) (k .0) (k .1) r)
+
+  record Turned (es ds : List Exchange) : Type 0 where
+    packed : Packed ds
+    lighter : weigh (left o ds) ≡ weigh (left o es) - 1
+
+  packed-turn : (es : List Exchange) → Packed es → Turned es (exchanged (ruled (pass o) es) (reply es) es)
   packed-turn es i = go (i .stage)
     where
-      go : Stage es → Packed (exchanged (ruled (pass o) es) (reply es) es)
-      go (at-op x e s k r) =
-          subst (λ (a : Ruling). Packed (exchanged a (reply es) es)) (sym (ruled-at o es (x ∷ behind o x) (i .unrefused) e))
-          (subst (λ (l : List Op). Packed (made o es x (replyFor l (seen (o .method) es)) ∷ es)) (sym e)
-          (answered es x (i .unrefused) e s (told-next x (seen (o .method) es) (named es) s k r)))
-      go (over e b) = subst (λ (a : Ruling). Packed (exchanged a (reply es) es)) (sym (ruled-at o es [] (i .unrefused) e)) i
+      v : Seen
+      v = seen (o .method) es
+
+      -- the reply to an operation that is due
+      next : Op → List Exchange
+      next d = made o es d (replyTo d v) ∷ es
+
+      answered : (x : Op) (p : Poll) → left o es ≡ planAt o x p → Led (planAt o x p) (judged o es (made o es (dueAt x p) (replyTo (dueAt x p) v))) (seen (o .method) (next (dueAt x p))) (named (next (dueAt x p))) → Turned es (next (dueAt x p))
+      answered x p e t =
+          let f : left o (next (dueAt x p)) ≡ move (judged o es (made o es (dueAt x p) (replyTo (dueAt x p) v))) (planAt o x p) = ap (move (judged o es (made o es (dueAt x p) (replyTo (dueAt x p) v)))) e in
+          let a = t .lighter in
+          let b = ap weigh f in
+          let c = ap weigh e in
+          record {
+            packed =
+                record {
+                  unrefused = refused-next o es (made o es (dueAt x p) (replyTo (dueAt x p) v)) none (i .unrefused) (t .unrefusing);
+                  stage = subst (λ (l : List Op). Stage l (seen (o .method) (next (dueAt x p))) (named (next (dueAt x p)))) (sym f) (t .stage);
+                };
+            lighter = omega arith;
+          }
+
+      go : Stage (left o es) v (named es) → Turned es (exchanged (ruled (pass o) es) (reply es) es)
+      go (at-op x p e s k r) =
+          subst (λ (a : Ruling). Turned es (exchanged a (reply es) es)) (sym (ruled-at o es (planAt o x p) (i .unrefused) e))
+          (subst (λ (l : List Op). Turned es (made o es (dueAt x p) (replyFor l v) ∷ es)) (sym e) (answered x p e (led x p v (named es) s k r)))
+      go (over e b) =
+          let c = ap weigh e in
+          subst (λ (a : Ruling). Turned es (exchanged a (reply es) es)) (sym (ruled-at o es [] (i .unrefused) e)) (record { packed = i; lighter = omega arith })
 
   -- ---- the replies, each after the rules' exchanges for those before it
 
@@ -405,45 +523,58 @@ module _ (o : Order) (z : Sized o) (ok : Recordable o) (p q : ℕ) (su : Suitabl
     all-bytes : AllBytes (replies k)
     marked : AllMarkedGood (replies k)
     packed : Packed (play (pass o) [] (replies k))
-    enough : length (replies k) ≡ k
+    lighter : weigh (left o (play (pass o) [] (replies k))) ≡ weigh (script o) - k
 
   first-room : (m : Method) → RoomBy m o (record { 0 = 0 }) (script (by o m))
   first-room Tao = let e = tracks-ahead (by o Tao) 0 in omega arith
   first-room Sao = tt
 
   fine : (k : ℕ) → Fine k
-  fine zero = record { all-bytes = tt; marked = tt; packed = record { unrefused = refl; stage = at-op GetConfiguration refl refl tt (first-room (o .method)) }; enough = refl }
+  fine zero =
+      record {
+        all-bytes = tt;
+        marked = tt;
+        packed = record { unrefused = refl; stage = at-op GetConfiguration Off refl (record { standing = refl; polled-at = tt }) tt (first-room (o .method)) };
+        lighter = omega arith;
+      }
   fine (suc k) = more (fine k)
     where
       more : Fine k → Fine (suc k)
       more i =
           let es : List Exchange = play (pass o) [] (replies k) in
-          let n : length (replies k ++ (reply es ∷ [])) ≡ length (replies k) + 1 = length-append (replies k) (reply es ∷ []) in
-          let e = i .enough in
+          let t = packed-turn es (i .packed) in
+          let a = t .lighter in
+          let b = i .lighter in
+          let c : weigh (left o (play (pass o) [] (replies (suc k)))) ≡ weigh (left o (exchanged (ruled (pass o) es) (reply es) es)) = ap (λ (l : List Exchange). weigh (left o l)) (play-snoc (replies k) [] (reply es)) in
           record {
             all-bytes = bytes-snoc (replies k) (reply es) (i .all-bytes) (reply-bytes (left o es) (seen (o .method) es));
             marked = marked-snoc (replies k) (reply es) (i .marked) (reply-good (left o es) (seen (o .method) es));
-            packed = subst Packed (sym (play-snoc (replies k) [] (reply es))) (packed-turn es (i .packed));
-            enough = omega arith;
+            packed = subst Packed (sym (play-snoc (replies k) [] (reply es))) (t .packed);
+            lighter = omega arith;
           }
 
-  -- after the exact count the job is done, so profile and status are known
-  at-last : (es : List Exchange) → left o es ≡ [] → Stage es → Both (seen (o .method) es)
-  at-last es e (at-op x f s k r) = clash (cc)
-  at-last es e (over f b) = b
+  -- after them the job is done, so profile and status are known
+  at-last : (l : List Op) (v : Seen) (n : Named) → l ≡ [] → Stage l v n → Both v
+  at-last l v n e (at-op x p f s k r) = clash (cc)
+  at-last l v n e (over f b) = b
 
-  all-left : (k : ℕ) (es : List Exchange) → k ≡ expected o → Progressed o k es → left o es ≡ []
-  all-left k es e (under-way x l n) = absurd (omega arith)
-  all-left k es e (at-end x l n) = done-left o es (as-done-done (ruled (pass o) es) x)
+  none-left : (l : List Op) → weigh l ≡ 0 → l ≡ []
+  none-left [] e = refl
+  none-left (x ∷ l) e = absurd (go (isPolled (o .immed) x) e)
     where
-      as-done-done : (a : Ruling) → ending a ≡ as-done → a ≡ done
-      as-done-done (issue c) q = clash (cc)
-      as-done-done done q = refl
-      as-done-done (stop w) q = clash (cc)
+      go : (b : Bool) → if b 3 1 + weigh l ≡ 0 → ⊥
+      go true e = omega arith
+      go false e = omega arith
 
   pub can-pass : (rs : List Reply) × Passing o p q rs
   can-pass =
-      let i = fine (expected o) in
-      let es : List Exchange = play (pass o) [] (replies (expected o)) in
-      let b = at-last es (all-left (length (replies (expected o))) es (i .enough) (rule-good o (replies (expected o)) (z .all) (i .marked) (i .packed .unrefused))) (i .packed .stage) in
-      (replies (expected o), record { all-bytes = i .all-bytes; marked = i .marked; unrefused = i .packed .unrefused; enough = i .enough; of-profile = b .0; of-status = b .1 })
+      let k : ℕ = weigh (script o) in
+      let i = fine k in
+      let es : List Exchange = play (pass o) [] (replies k) in
+      let w = i .lighter in
+      let e : left o es ≡ [] = none-left (left o es) (omega arith) in
+      let b = at-last (left o es) (seen (o .method) es) (named es) e (i .packed .stage) in
+      (
+        replies k,
+        record { all-bytes = i .all-bytes; marked = i .marked; unrefused = i .packed .unrefused; enough = ruled-at o es [] (i .packed .unrefused) e; of-profile = b .0; of-status = b .1 },
+      )

@@ -86,7 +86,7 @@ enum Move {
 }
 
 // The operation whose reply is awaited: that of the place, or a poll.
-fn due_at(place: Op, poll: Poll) -> Op
+pub fn due_at(place: Op, poll: Poll) -> Op
     ensures { λ r. ⌜ r ≡ dueAt place poll ⌝ }
 {
     match poll {

@@ -3,7 +3,7 @@
 pub mod answers;
 pub mod exchanges;
 pub mod job;
-mod places;
+pub mod places;
 pub mod replies;
 mod rules;
 pub mod script;

@@ -18,7 +18,7 @@ pub(crate) enum Following {
 }
 
 // The blocks of a piece of the job: the pause, or a track; none past the last row.
-pub(crate) fn piece_length(o: Order, t: u32) -> u32
+pub fn piece_length(o: Order, t: u32) -> u32
     ensures { λ r. ⌜ r ≡ pieceOf o t ⌝ }
 {
     if t == 0 {
