@@ -1,6 +1,6 @@
 -- What the job's parts come to, over its definitions alone.
 use mathlib.Core.Path.{_≡_, refl, sym, ap, _∙_}
-use mathlib.Core.Bool.{Bool, true, false, not}
+use mathlib.Core.Bool.{Bool, true, false, not, _&&_}
 use mathlib.Core.List.{List, []}
 use Prim.Native.Nat.{ℕ, zero, suc, _+_, _-_, _≤_, _<_, _^_}
 use native.Mathlib.Numerals.{add-one}
@@ -24,23 +24,28 @@ use Rattle.mmc.specs.declared.refusals.Check.{Check}
 use Rattle.mmc.specs.declared.refusals.Check.the-variants as C
 use Rattle.mmc.proofs.bytes.Steps.{Bytes}
 use Rattle.recorder.specs.declared.script.Op.{Op}
-use Rattle.recorder.specs.declared.script.Op.the-variants.{GetConfiguration, ReadDiscInformation, ReadTrackInformation, ModeSelect, SendCueSheet, Write, SynchronizeCache, CloseTrack, CloseSession}
+use Rattle.recorder.specs.declared.script.Op.the-variants.{GetConfiguration, ReadDiscInformation, ReadTrackInformation, ModeSelect, SendCueSheet, Write, SynchronizeCache, CloseTrack, CloseSession, TestUnitReady, RequestSense}
 use Rattle.recorder.specs.declared.replies.TrackInformation.{TrackInformation}
 use Rattle.recorder.specs.declared.replies.Reading.{Reading}
-use Rattle.recorder.specs.declared.replies.Reading.the-variants.{Busy, Failed, Malformed, Profile, Status, Information, Unread}
+use Rattle.recorder.specs.declared.replies.Reading.the-variants.{Busy, NotReady, Failed, Malformed, Profile, Status, Information, ProgressIndication, Unread}
+use Rattle.recorder.specs.declared.exchanges.Seen.{Seen}
+use Rattle.recorder.specs.declared.job.Poll.{Poll}
+use Rattle.recorder.specs.declared.job.Poll.the-variants.{Off, Ready, Sense}
 use Rattle.recorder.specs.declared.job.Progress.{Progress}
 use Rattle.recorder.specs.declared.job.Recorder.{Recorder}
 use Rattle.recorder.specs.Answers.{because}
-use Rattle.recorder.specs.Replies.{isBusy, readFailed, wholeProfile, readProfile, wholeDisc, readStatus, wholeInformation, informationOf, readInformation, readGood, reading, UnsignedIn, ForTrack}
-use Rattle.recorder.specs.Script.{trackIn, ofWrite}
+use Rattle.recorder.specs.Replies.{isBusy, readFailed, isUnready, readUnready, wholeProfile, readProfile, wholeDisc, readStatus, wholeInformation, informationOf, readInformation, readProgress, readGood, failedBy, reading, UnsignedIn, ForTrack}
+use Rattle.recorder.specs.Script.{trackIn, ofWrite, asksReady}
 use Rattle.recorder.specs.Exchanges.{startAt, past, see}
 use Rattle.recorder.specs.Rules.{onward, still, lastFrame, fits, trackTests, judge, refusedBy}
 use Rattle.recorder.specs.Places.{pieceOf, blockAfter}
-use Rattle.recorder.specs.Job.{inOrder, inPiece, standsAt, standsIn, stands, Ready, endedAt, Next, goes, halt, turnOf, stepOf, unchanged, opening, takenAs, takeOf, giveOf}
+use Rattle.recorder.specs.Job.{dueAt, dueIn, inOrder, inPiece, standsAt, standsIn, standsPolled, stands, Prepared, restsAt, idleRecorder, Next, goes, halt, turnOf, stepOf, unchanged, opening, takenAs, takeOf, giveOf}
 use Rattle.recorder.proofs.Lists.{both, passed-clear}
 use Rattle.recorder.proofs.Apart.{passed}
 use Rattle.recorder.proofs.Standing.{limits}
+use Rattle.recorder.specs.History.{Rests}
 use Rattle.recorder.proofs.Makes.{of-piece}
+use Rattle.recorder.proofs.Steps.{give-over}
 
 -- ---- the blocks of a piece
 
@@ -60,11 +65,12 @@ pub record Tested (o : Order) (s : Progress) (l k : ℕ) (b : Bool) : Type 0 whe
   pub next-is : k ≡ pieceOf o (suc (trackIn (s .place)))
   pub test-is : b ≡ stands o s
 
-pub tested-so : (o : Order) (s : Progress) {t l k : ℕ} {b : Bool} → t ≡ trackIn (s .place) → l ≡ pieceOf o t → k ≡ pieceOf o (t + 1) → b ≡ standsIn (o .method) (o .count) l k (s .seen .at) (s .place) → Tested o s l k b
-tested-so o s e p q h =
+pub tested-so : (o : Order) (s : Progress) {t l k : ℕ} {a b c : Bool} → t ≡ trackIn (s .place) → l ≡ pieceOf o t → k ≡ pieceOf o (t + 1) → a ≡ standsPolled (o .immed) (s .place) (s .poll) → b ≡ standsIn (o .method) (o .count) l k (s .seen .at) (s .place) → c ≡ a && b → Tested o s l k c
+tested-so o s e p q i h j =
     let x = rw e at p in
     let y = rw (add-one, e) at q in
-    record { length-is = x; next-is = y; test-is = rw (x, y) at h }
+    let z = rw (x, y) at h in
+    record { length-is = x; next-is = y; test-is = rw (j, i, z) }
 
 -- ---- where the job stands, what comes after it is a number of 32 bits
 
@@ -89,6 +95,8 @@ module _ (m : Method) (n l k : ℕ) (at : FrameCount) where
   by-write P z g (SynchronizeCache t) e p q = p
   by-write P z g (CloseTrack t) e p q = p
   by-write P z g CloseSession e p q = p
+  by-write P z g TestUnitReady e p q = p
+  by-write P z g RequestSense e p q = p
 
   pub block-fits : (x : Op) → standsIn m n l k at x ≡ true → l < 2 ^ 32 → blockAfter x < 2 ^ 32
   block-fits x e h = by-write (λ (b : ℕ). b < 2 ^ 32) 0 (λ t f c. f + c) x e (omega arith) (λ t f c p q. omega arith)
@@ -102,17 +110,32 @@ start-fits : (m : Method) (blocks : ℕ) (at : FrameCount) (i : TrackInformation
 start-fits Tao blocks at i e h = let k = limits Tao blocks i e .1 in omega arith
 start-fits Sao blocks at i e h = h
 
-module _ (o : Order) (s : Progress) (h : s .seen .at .0 < 2 ^ 32) (e : stands o s ≡ true) where
-  pub seen-fits : (r : Reading) → judge o (s .seen) (s .place) r ≡ onward [] → see (o .method) (s .place) r (s .seen) .at .0 < 2 ^ 32
-  seen-fits Busy j = h
-  seen-fits (Failed x) j = h
-  seen-fits Malformed j = h
-  seen-fits (Profile p) j = h
-  seen-fits (Status q) j = h
-  seen-fits (Information i) j =
-      let t = trackIn (s .place) in
-      start-fits (o .method) (still o t) (s .seen .at) i (passed o t (s .seen) i (passed-clear (trackTests o t (s .seen) i) (ap refusedBy j)) .fitting) h
-  seen-fits Unread j = past-fits (o .method) (o .count) _ _ (s .seen .at) (s .place) e h
+-- the two parts of the test
+pub in-place : (o : Order) (s : Progress) → stands o s ≡ true → standsIn (o .method) (o .count) (pieceOf o (trackIn (s .place))) (pieceOf o (suc (trackIn (s .place)))) (s .seen .at) (s .place) ≡ true
+in-place o s e = both (standsPolled (o .immed) (s .place) (s .poll)) _ e .1
+
+module _ (o : Order) (x : Op) (v : Seen) (h : v .at .0 < 2 ^ 32) (e : standsIn (o .method) (o .count) (pieceOf o (trackIn x)) (pieceOf o (suc (trackIn x))) (v .at) x ≡ true) where
+  -- a poll puts no block
+  past-due : (p : Poll) → past (dueAt x p) (v .at) .0 < 2 ^ 32
+  past-due Off = past-fits (o .method) (o .count) _ _ (v .at) x e h
+  past-due Ready = h
+  past-due Sense = h
+
+  fits-by : (p : Poll) (r : Reading) (xs : List Op) → judge o v (dueAt x p) r ≡ onward xs → see (o .method) (dueAt x p) r v .at .0 < 2 ^ 32
+  fits-by p Busy xs j = h
+  fits-by p NotReady xs j = h
+  fits-by p (Failed y) xs j = h
+  fits-by p Malformed xs j = h
+  fits-by p (Profile n) xs j = h
+  fits-by p (Status q) xs j = h
+  fits-by p (Information i) xs j =
+      let t = trackIn (dueAt x p) in
+      start-fits (o .method) (still o t) (v .at) i (passed o t v i (passed-clear (trackTests o t v i) (ap refusedBy j)) .fitting) h
+  fits-by p (ProgressIndication n) xs j = h
+  fits-by p Unread xs j = past-due p
+
+pub seen-fits : (o : Order) (s : Progress) (r : Reading) (xs : List Op) → s .seen .at .0 < 2 ^ 32 → stands o s ≡ true → judge o (s .seen) (dueIn s) r ≡ onward xs → see (o .method) (dueIn s) r (s .seen) .at .0 < 2 ^ 32
+seen-fits o s r xs h e j = fits-by o (s .place) (s .seen) h (in-place o s e) (s .poll) r xs j
 
 -- ---- what a reply of bytes says where the job stands: an address of four bytes, for a track
 
@@ -130,7 +153,7 @@ small d k h = simp getD-drop (omega (arith, h (k + 0), h (k + 1), h (k + 2), h (
 module _ (m : Method) (n l k : ℕ) (at : FrameCount) (d : List ℕ) (h : Bytes d) where
   -- a 52h comes before a track of the order
   sound-good : (x : Op) → standsAt m n l k at x ≡ true → Sound (trackIn x) (readGood x d)
-  unfolding inOrder readProfile readStatus readInformation informationOf
+  unfolding inOrder readProfile readStatus readInformation informationOf readProgress
   sound-good GetConfiguration e = sound-if 0 (wholeProfile d) _ _ (tt, tt) (tt, tt)
   sound-good ReadDiscInformation e = sound-if 0 (wholeDisc d) _ _ (tt, tt) (tt, tt)
   sound-good (ReadTrackInformation t) e = sound-if (t .0) (wholeInformation d) _ _ ((be32 (drop 12 d), (refl, small d 12 h)), leb-true 1 _ (both _ _ e .0)) (tt, tt)
@@ -140,15 +163,27 @@ module _ (m : Method) (n l k : ℕ) (at : FrameCount) (d : List ℕ) (h : Bytes 
   sound-good (SynchronizeCache t) e = (tt, tt)
   sound-good (CloseTrack t) e = (tt, tt)
   sound-good CloseSession e = (tt, tt)
+  sound-good TestUnitReady e = (tt, tt)
+  sound-good RequestSense e = sound-if 0 (leb 18 (length d)) _ _ (tt, tt) (tt, tt)
 
-  pub sound : (x : Op) (good : Bool) → standsIn m n l k at x ≡ true → Sound (trackIn x) (reading x (replyOf good d))
-  unfolding readFailed
-  sound x good e = sound-if (trackIn x) good _ _ (sound-good x (at-place m n l k at x e)) (sound-if (trackIn x) (isBusy d) _ _ (tt, tt) (tt, tt))
+  sound-failed : (x : Op) → Sound (trackIn x) (failedBy x d)
+  unfolding readFailed readUnready
+  sound-failed x = sound-if (trackIn x) (asksReady x) _ _ (sound-if (trackIn x) (isUnready d) _ _ (tt, tt) (tt, tt)) (sound-if (trackIn x) (isBusy d) _ _ (tt, tt) (tt, tt))
 
-pub ready : (o : Order) (s : Progress) {l k : ℕ} {v : Bool} {r : Reading} (good : Bool) (d : List ℕ) → Tested o s l k v → not v ≡ false → Bytes d → r ≡ reading (s .place) (replyOf good d) → Ready o s l k r
-ready o s good d w h b e =
+  -- neither poll has an address
+  sound-due : (x : Op) (p : Poll) → standsAt m n l k at x ≡ true → Sound (trackIn (dueAt x p)) (readGood (dueAt x p) d)
+  unfolding readProgress
+  sound-due x Off e = sound-good x e
+  sound-due x Ready e = (tt, tt)
+  sound-due x Sense e = sound-if 0 (leb 18 (length d)) _ _ (tt, tt) (tt, tt)
+
+  pub sound : (x : Op) (p : Poll) (good : Bool) → standsIn m n l k at x ≡ true → Sound (trackIn (dueAt x p)) (reading (dueAt x p) (replyOf good d))
+  sound x p good e = sound-if (trackIn (dueAt x p)) good _ _ (sound-due x p (at-place m n l k at x e)) (sound-failed (dueAt x p))
+
+pub prepared : (o : Order) (s : Progress) {l k : ℕ} {v : Bool} {r : Reading} (good : Bool) (d : List ℕ) → Tested o s l k v → not v ≡ false → Bytes d → r ≡ reading (dueIn s) (replyOf good d) → Prepared o s l k r
+prepared o s good d w h b e =
     let p : stands o s ≡ true = sym (w .test-is) ∙ not-false _ h in
-    let q = sound (o .method) (o .count) _ _ (s .seen .at) d b (s .place) good p in
+    let q = sound (o .method) (o .count) _ _ (s .seen .at) d b (s .place) (s .poll) good (in-place o s p) in
     record { length-is = w .length-is; next-is = w .next-is; passes = p; unsigned = rw e (q .0); for-track = rw e (q .1) }
 
 -- ---- an order that is taken
@@ -166,7 +201,7 @@ module _ (b : List ℕ) (o : Order) {k : Check} {x : Next} (e : checked k o ≡ 
 
 -- ---- a reply that is given, by the two tests: the job has ended, it can stand where it does
 
-module _ (r : Recorder) (good : Bool) (d : List ℕ) {x : Next} {w : Bool} (e : w ≡ endedAt (r .phase)) where
+module _ (r : Recorder) (good : Bool) (d : List ℕ) {x : Next} {w : Bool} (e : w ≡ restsAt (r .phase)) where
   pub has-ended : w ≡ true → x ≡ unchanged r 13 → x ≡ giveOf r good d
   unfolding giveOf
   has-ended h q = rw (sym e ∙ h) q
@@ -176,6 +211,11 @@ module _ (r : Recorder) (good : Bool) (d : List ℕ) {x : Next} {w : Bool} (e : 
     unfolding giveOf
     fails k q = rw (sym e ∙ h, sym z ∙ not-true v k) q
 
-    pub goes-on : not v ≡ false → x ≡ stepOf (r .order) (r .progress) (r .count) (turnOf (r .order) (r .progress) (reading (r .progress .place) (replyOf good d))) → x ≡ giveOf r good d
+    pub goes-on : not v ≡ false → x ≡ stepOf (r .order) (r .progress) (r .count) (turnOf (r .order) (r .progress) (reading (dueIn (r .progress)) (replyOf good d))) → x ≡ giveOf r good d
     unfolding giveOf
     goes-on k q = rw (sym e ∙ h, sym z ∙ not-false v k) q
+
+-- ---- a recorder that has taken no order
+
+pub rests : (r : Recorder) → r ≡ idleRecorder → Rests r
+rests r e = record { state = e; unmoved = λ good d. give-over r good d (ap (λ (x : Recorder). restsAt (x .phase)) e) }

@@ -45,6 +45,12 @@ returns-8 c =
 returns-9 : tie.Need-returns-9
 returns-9 c = simp (c .before .before .before .before .before .before .before .is-stepwise .ensures, c .enum-told8 .given .1)
 
+returns-10 : tie.Need-returns-10
+returns-10 c = rw (c .enum-told9 .given .1)
+
+returns-11 : tie.Need-returns-11
+returns-11 c = rw (c .enum-told10 .given .1)
+
 pub stands-at-spec : {M : Type 1} → statement M
 stands-at-spec =
     tie.close
@@ -76,4 +82,8 @@ stands-at-spec =
     returns-6
     returns-7
     returns-8
-    returns-9)
+    returns-9
+    (λ c. search needs)
+    returns-10
+    (λ c. search needs)
+    returns-11)
