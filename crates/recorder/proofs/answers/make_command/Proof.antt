@@ -29,6 +29,12 @@ returns-8 c = rw (c .before .before .before .before .enum-told7 .given .1) (c .b
 returns-9 : tie.Need-returns-9
 returns-9 c = rw (c .before .before .before .before .enum-told8 .given .1) (c .before .before .close-track-session2 .ensures)
 
+returns-10 : tie.Need-returns-10
+returns-10 c = rw (c .before .before .before .before .enum-told9 .given .1) (c .before .before .test-unit-ready .ensures)
+
+returns-11 : tie.Need-returns-11
+returns-11 c = rw (c .before .before .before .before .enum-told10 .given .1) (c .before .before .request-sense .ensures)
+
 pub make-command-spec : {M : Type 1} → statement M
 make-command-spec =
     tie.close
@@ -43,6 +49,10 @@ make-command-spec =
     (λ c κs. search needs)
     (λ c. search needs)
     (λ c. search needs)
+    (λ c. search needs)
+    (λ c κs. search needs)
+    (λ c. search needs)
+    (λ c κs. search needs)
     (λ c. search needs)
     (λ c κs. search needs)
     (λ c. search needs)
@@ -70,4 +80,8 @@ make-command-spec =
     (λ c. search needs)
     returns-8
     (λ c. search needs)
-    returns-9)
+    returns-9
+    (λ c. search needs)
+    returns-10
+    (λ c. search needs)
+    returns-11)

@@ -40,6 +40,12 @@ returns-8 c =
 returns-9 : tie.Need-returns-9
 returns-9 c = rw (c .enum-told8 .given .1)
 
+returns-10 : tie.Need-returns-10
+returns-10 c = rw (c .enum-told9 .given .1)
+
+returns-11 : tie.Need-returns-11
+returns-11 c = rw (c .enum-told10 .given .1)
+
 pub op-after-spec : {M : Type 1} → statement M
 op-after-spec =
     tie.close
@@ -59,6 +65,8 @@ op-after-spec =
     (λ c. search needs)
     (λ c. search needs)
     (λ c. search needs)
+    (λ c. search needs)
+    (λ c. search needs)
     returns
     returns-2
     returns-3
@@ -67,4 +75,6 @@ op-after-spec =
     returns-6
     returns-7
     returns-8
-    returns-9)
+    returns-9
+    returns-10
+    returns-11)

@@ -11,6 +11,9 @@ returns-2 c = simp (c .before .enum-told2 .given .1, c .read-status .ensures)
 returns-3 : tie.Need-returns-3
 returns-3 c = simp (c .before .enum-told3 .given .1, c .read-information .ensures)
 
+returns-11 : tie.Need-returns-11
+returns-11 c = simp (c .before .enum-told11 .given .1, c .read-progress .ensures)
+
 pub read-good-spec : {M : Type 1} → statement M
 read-good-spec =
     tie.close
@@ -27,6 +30,9 @@ read-good-spec =
     (λ c. search needs)
     (λ c. search needs)
     (λ c. search needs)
+    (λ c. search needs)
+    (λ c. search needs)
+    (λ c κs. search needs)
     returns
     returns-2
     returns-3
@@ -35,4 +41,6 @@ read-good-spec =
     (λ c. search needs)
     (λ c. search needs)
     (λ c. search needs)
-    (λ c. search needs))
+    (λ c. search needs)
+    (λ c. search needs)
+    returns-11)
