@@ -5,7 +5,7 @@ use mathlib.Core.List.{List, [], _++_}
 use Prim.Native.Nat.{ℕ, zero, suc, _-_}
 use lib.ListN.{length, drop}
 use lib.Dec.{leb}
-use native.Mathlib.Numerals.{unary-clauses}
+use native.Mathlib.Omega.{arith}
 use Rattle.mmc.specs.Bytes.{if, bytes32}
 use Rattle.mmc.specs.Refusals.{Outcome, pass, refuse, valueOr, answerOf, bufferOf, madeOf, Fills}
 use Rattle.mmc.specs.Commands.{sendCueSheet, writeRange, writeBytes, writeCommand, closeTrackSession}
@@ -46,9 +46,9 @@ short immed n a RequestSense = refl
 -- ---- so they fit into twelve zeros, and leave the last ones
 
 drop-zeros : (k n : ℕ) → drop k (zeros n) ≡ zeros (n - k)
-drop-zeros zero n = simp unary-clauses
-drop-zeros (suc k) zero = simp unary-clauses
-drop-zeros (suc k) (suc n) = simp unary-clauses (drop-zeros k n)
+drop-zeros zero n = let e : n - 0 ≡ n = omega arith in rw e
+drop-zeros (suc k) zero = let e : 0 - suc k ≡ 0 = omega arith in rw e
+drop-zeros (suc k) (suc n) = let e : suc n - suc k ≡ n - k = omega arith in rw e (drop-zeros k n)
 
 module _ {after : List ℕ} where
   pub filled : (q : Outcome (List ℕ)) {m : Made} (n : ℕ) → Short q → m ≡ M.Bytes n → Fills q m (zeros 12) after → record { bytes = after; length = n } ≡ cdbOf (valueOr [] q)
