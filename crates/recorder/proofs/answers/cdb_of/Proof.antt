@@ -1,5 +1,5 @@
 use mathlib.Core.Path.{_∙_}
-use Rattle.recorder.proofs.answers.Laws.{ten, filled, unfilled}
+use Rattle.recorder.proofs.answers.Laws.{short, filled, unfilled}
 use borrow.Author.Needs.{needs}
 use Rattle.recorder.proofs.answers.cdb_of.Statement.{statement}
 use Rattle.recorder.proofs.answers.cdb_of.Tie as tie
@@ -8,13 +8,13 @@ returns : tie.Need-returns
 returns c =
     let k = c .before .before .before .before in
     let a = k .before .before .args in
-    filled _ _ (ten (a .tracks) (a .c .address) (a .c .op)) (c .before .made .given .1) (k .make-command .ensures)
+    filled _ _ (short (a .immed) (a .tracks) (a .c .address) (a .c .op)) (c .before .made .given .1) (k .make-command .ensures)
 
 returns-2 : tie.Need-returns-2
 returns-2 c =
     let k = c .before .before .before .before in
     let a = k .before .before .args in
-    c .no-cdb .ensures ∙ unfilled _ _ (ten (a .tracks) (a .c .address) (a .c .op)) (c .before .enum-told .given .1) (k .make-command .ensures)
+    c .no-cdb .ensures ∙ unfilled _ _ (short (a .immed) (a .tracks) (a .c .address) (a .c .op)) (c .before .enum-told .given .1) (k .make-command .ensures)
 
 pub cdb-of-spec : {M : Type 1} → statement M
 cdb-of-spec =

@@ -5,9 +5,6 @@ use Rattle.recorder.proofs.exchanges.past_op.Tie as tie
 add-t5 : tie.Need-add-t5
 add-t5 c = let h = rw (c .before .before .before .op .given .1) at (c .before .before .before .before .before .pre) in search needs
 
-returns-6 : tie.Need-returns-6
-returns-6 c = rw (c .before .before .before .op .given .1)
-
 pub past-op-spec : {M : Type 1} → statement M
 past-op-spec =
     tie.close
@@ -27,7 +24,11 @@ past-op-spec =
     (λ c. search needs)
     (λ c. search needs)
     (λ c. search needs)
-    returns-6
+    (λ c. search needs)
+    (λ c. search needs)
+    (λ c. rw (c .before .before .before .op .given .1))
+    (λ c. search needs)
+    (λ c. search needs)
     (λ c. search needs)
     (λ c. search needs)
     (λ c. search needs))

@@ -10,19 +10,12 @@ start-at-requires c κs =
     (rw e at (p .1), rw e at (p .0))
 
 past-op-requires : tie.Need-past-op-requires
-past-op-requires c κs = rw (c .enum-told4 .given .1) at (c .before .before .before .pre .0)
+past-op-requires c κs = rw (c .enum-told5 .given .1) at (c .before .before .before .pre .0)
 
-returns-4 : tie.Need-returns-4
-returns-4 c = simp (c .before .reading .given .1)
-
-returns-5 : tie.Need-returns-5
-returns-5 c = simp (c .before .reading2 .given .1)
-
-returns-6 : tie.Need-returns-6
-returns-6 c = simp (c .before .before .reading3 .given .1, c .start-at .ensures)
-
-returns-7 : tie.Need-returns-7
-returns-7 c = simp (c .before .enum-told4 .given .1, c .past-op .ensures)
+returns-9 : tie.Need-returns-9
+returns-9 c =
+    let k = c .before .before in
+    simp (k .before .enum-told5 .given .1, k .past-op .ensures, c .before .asks-ready .ensures, c .progress-past .ensures)
 
 pub see-reply-spec : {M : Type 1} → statement M
 see-reply-spec =
@@ -30,17 +23,26 @@ see-reply-spec =
     (tie.spec
     (λ c. search needs)
     (λ c. search needs)
+    (λ c κs. search needs)
     (λ c. search needs)
+    (λ c κs. search needs)
+    (λ c. search needs)
+    (λ c κs. search needs)
     (λ c. search needs)
     (λ c. search needs)
     (λ c. search needs)
     start-at-requires
     (λ c. search needs)
+    (λ c. search needs)
     past-op-requires
-    (λ c. search needs)
-    (λ c. search needs)
-    (λ c. search needs)
-    returns-4
-    returns-5
-    returns-6
-    returns-7)
+    (λ c κs. search needs)
+    (λ c κs. search needs)
+    (λ c. rw (c .enum-told .given .1))
+    (λ c. simp (c .before .enum-told2 .given .1, c .unready .ensures))
+    (λ c. simp (c .before .enum-told3 .given .1, c .unready2 .ensures))
+    (λ c. simp (c .before .enum-told4 .given .1, c .unready3 .ensures))
+    (λ c. simp (c .before .reading .given .1))
+    (λ c. simp (c .before .reading2 .given .1))
+    (λ c. simp (c .before .before .reading3 .given .1, c .start-at .ensures))
+    (λ c. simp (c .before .reading4 .given .1))
+    returns-9)

@@ -5,9 +5,6 @@ use Rattle.recorder.proofs.places.block_after.Tie as tie
 add-result : tie.Need-add-result
 add-result c = let h = rw (c .before .before .before .op .given .1) at (c .before .before .before .before .before .pre) in search needs
 
-returns-6 : tie.Need-returns-6
-returns-6 c = rw (c .before .before .before .op .given .1)
-
 pub block-after-spec : {M : Type 1} → statement M
 block-after-spec =
     tie.close
@@ -27,7 +24,11 @@ block-after-spec =
     (λ c. search needs)
     (λ c. search needs)
     (λ c. search needs)
-    returns-6
+    (λ c. search needs)
+    (λ c. search needs)
+    (λ c. rw (c .before .before .before .op .given .1))
+    (λ c. search needs)
+    (λ c. search needs)
     (λ c. search needs)
     (λ c. search needs)
     (λ c. search needs))

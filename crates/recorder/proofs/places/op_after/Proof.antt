@@ -2,15 +2,6 @@ use borrow.Author.Needs.{needs}
 use Rattle.recorder.proofs.places.op_after.Statement.{statement}
 use Rattle.recorder.proofs.places.op_after.Tie as tie
 
-returns : tie.Need-returns
-returns c = rw (c .enum-told .given .1)
-
-returns-2 : tie.Need-returns-2
-returns-2 c = rw (c .enum-told2 .given .1)
-
-returns-3 : tie.Need-returns-3
-returns-3 c = rw (c .before .op .given .1)
-
 returns-4 : tie.Need-returns-4
 returns-4 c =
     let p = c .before .before .before .before in
@@ -37,9 +28,6 @@ returns-8 c =
     let k = c .before .before in
     simp (k .after-close-track .ensures, k .before .before .before .before .before .track-of .ensures, c .enum-told7 .given .1)
 
-returns-9 : tie.Need-returns-9
-returns-9 c = rw (c .enum-told8 .given .1)
-
 pub op-after-spec : {M : Type 1} → statement M
 op-after-spec =
     tie.close
@@ -59,12 +47,16 @@ op-after-spec =
     (λ c. search needs)
     (λ c. search needs)
     (λ c. search needs)
-    returns
-    returns-2
-    returns-3
+    (λ c. search needs)
+    (λ c. search needs)
+    (λ c. rw (c .enum-told .given .1))
+    (λ c. rw (c .enum-told2 .given .1))
+    (λ c. rw (c .before .op .given .1))
     returns-4
     returns-5
     returns-6
     returns-7
     returns-8
-    returns-9)
+    (λ c. rw (c .enum-told8 .given .1))
+    (λ c. rw (c .enum-told9 .given .1))
+    (λ c. rw (c .enum-told10 .given .1)))

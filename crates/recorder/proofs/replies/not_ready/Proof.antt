@@ -5,15 +5,11 @@ use Rattle.recorder.proofs.replies.not_ready.Tie as tie
 
 returns : tie.Need-returns
 unfolding notReady
-returns c = simp (eq-eqb _ _ (c .before .before .before .if1 .taken), eq-eqb _ _ (c .before .if2 .taken))
+returns c = simp (eq-eqb _ _ (c .before .if1 .taken))
 
 returns-2 : tie.Need-returns-2
 unfolding notReady
-returns-2 c = simp (eq-eqb _ _ (c .before .before .if1 .taken), ne-eqb _ _ (c .if2 .left))
-
-returns-3 : tie.Need-returns-3
-unfolding notReady
-returns-3 c = simp (ne-eqb _ _ (c .if1 .left))
+returns-2 c = simp (ne-eqb _ _ (c .if1 .left))
 
 pub not-ready-spec : {M : Type 1} → statement M
-not-ready-spec = tie.close (tie.spec returns returns-2 returns-3)
+not-ready-spec = tie.close (tie.spec returns returns-2)

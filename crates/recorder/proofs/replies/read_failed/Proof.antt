@@ -13,13 +13,13 @@ returns-2 : tie.Need-returns-2
 unfolding isBusy readFailed
 returns-2 c =
     let k = c .before .before in
-    simp (← k .before .byte-at .ensures .0, eq-eqb _ 0x70 (k .if1 .left), ← k .before .before .sense-of .ensures, sym (c .before .not-ready .ensures) ∙ c .if2 .taken)
+    simp (← k .before .byte-at .ensures .0, eq-eqb _ 0x70 (k .if1 .left), ← k .before .before .sense-of .ensures, sym (c .before .long-write .ensures) ∙ c .if2 .taken)
 
 returns-3 : tie.Need-returns-3
 unfolding isBusy readFailed
 returns-3 c =
     let k = c .before .before in
-    simp (← k .before .byte-at .ensures .0, eq-eqb _ 0x70 (k .if1 .left), ← k .before .before .sense-of .ensures, sym (c .before .not-ready .ensures) ∙ c .if2 .left)
+    simp (← k .before .byte-at .ensures .0, eq-eqb _ 0x70 (k .if1 .left), ← k .before .before .sense-of .ensures, sym (c .before .long-write .ensures) ∙ c .if2 .left)
 
 pub read-failed-spec : {M : Type 1} → statement M
 read-failed-spec =

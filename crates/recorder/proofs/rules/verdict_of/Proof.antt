@@ -2,12 +2,6 @@ use borrow.Author.Needs.{needs}
 use Rattle.recorder.proofs.rules.verdict_of.Statement.{statement}
 use Rattle.recorder.proofs.rules.verdict_of.Tie as tie
 
-returns-2 : tie.Need-returns-2
-returns-2 c = simp (c .before .reading .given .1)
-
-returns-3 : tie.Need-returns-3
-returns-3 c = simp (c .enum-told2 .given .1)
-
 pub verdict-of-spec : {M : Type 1} → statement M
 verdict-of-spec =
     tie.close
@@ -20,9 +14,16 @@ verdict-of-spec =
     (λ c. search needs)
     (λ c. search needs)
     (λ c. search needs)
-    returns-2
-    returns-3
+    (λ c κs. search needs)
+    (λ c κs. search needs)
+    (λ c. search needs)
+    (λ c κs. search needs)
+    (λ c. search needs)
+    (λ c. search needs)
+    (λ c. simp (c .before .reading .given .1))
+    (λ c. simp (c .enum-told3 .given .1))
     (λ c. search needs)
     (λ c. search needs)
     (λ c. search needs)
-    (λ c. search needs))
+    (λ c. simp (c .before .before .before .reading2 .given .1, ← c .before .is-last .ensures, c .polls-if .ensures))
+    (λ c. simp (c .before .enum-told7 .given .1, c .polls-if2 .ensures)))
