@@ -6,13 +6,13 @@ use Rattle.mmc.specs.Times.{inRange, framesTo, addressAt}
 use Rattle.mmc.specs.Commands.{writeRange, writeBytes, writeCommand, sendCueSheet, closeTrackSession}
 use Rattle.mmc.specs.Sheet.{sheetSize}
 use Rattle.mmc.proofs.Bench as Layouts
-use Rattle.recorder.specs.Replies.{hasSense, senseOf, notReady, isBusy, readFailed, wholeProfile, readProfile, wholeDisc, readStatus, wholeInformation, informationOf, readInformation}
+use Rattle.recorder.specs.Replies.{hasSense, senseOf, longWrite, isBusy, readFailed, wholeProfile, readProfile, wholeDisc, readStatus, wholeInformation, informationOf, readInformation}
 use Rattle.recorder.specs.Rules.{otherProfile, unsuitable, unusable, mixedOrKept, fits}
 use Rattle.recorder.specs.Job.{inOrder, inTime, inPiece, isWrite, standsIn}
 use Rattle.recorder.specs.Bench.{BenchSheets}
 
 pub bench-sheets : BenchSheets
-unfolding sheetSize sendCueSheet closeTrackSession framesTo bytes32 be32 allKind allLong blocksOf inRange addressAt writeRange writeBytes writeCommand hasSense senseOf notReady isBusy readFailed wholeProfile readProfile wholeDisc readStatus wholeInformation informationOf readInformation otherProfile unsuitable unusable mixedOrKept fits inOrder inTime inPiece isWrite standsIn
+unfolding sheetSize sendCueSheet closeTrackSession framesTo bytes32 be32 allKind allLong blocksOf inRange addressAt writeRange writeBytes writeCommand hasSense senseOf longWrite isBusy readFailed wholeProfile readProfile wholeDisc readStatus wholeInformation informationOf readInformation otherProfile unsuitable unusable mixedOrKept fits inOrder inTime inPiece isWrite standsIn
 bench-sheets =
     record {
       layouts = Layouts.bench-sheets;

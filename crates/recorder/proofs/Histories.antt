@@ -24,7 +24,7 @@ use Rattle.recorder.specs.Script.{isPoll, stepwise, expected, Block}
 use Rattle.recorder.specs.Exchanges.{Exchange, recorded, occupied, polling, progress, seen, named}
 use Rattle.recorder.specs.Rules.{left, none, found, refusal, ruled, exchanged, play, orderedIn, AllClosed}
 use Rattle.recorder.specs.Job.{Next, nextIn, dueAt, commandOf, mostCommands, latestProgress, unchanged, restsAt, validOf, idleRecorder, takenAs, takeOf, giveOf}
-use Rattle.recorder.specs.History.{History, taken, given, givenAll, history, commandIn, commands, going, as-done, as-stop, ending, ended, Accompanied, Each, OfAnswer, Every, Fresh, Unskipped, AllWell, unpolled, answered, AllGood, Whole, Takes, Gives, Rests}
+use Rattle.recorder.specs.History.{History, taken, given, givenAll, history, commandIn, commands, going, as-done, as-stop, ending, ended, phaseIn, Accompanied, Each, OfAnswer, Every, Fresh, Unskipped, AllWell, unpolled, answered, AllGood, Whole, Takes, Gives, Rests}
 use Rattle.recorder.proofs.Lists.{if-yes, if-no, clash, false-true}
 use Rattle.recorder.proofs.Turns.{Played, played, progress-seen}
 use Rattle.recorder.proofs.Scripts.{script-length}
@@ -64,6 +64,7 @@ first (refuse n) z =
     (record {
       answer-ends = refl;
       state-ended = refl;
+      phase-so = refl;
       rules-over = refl;
       so-ended = refl;
       counts = refl;
@@ -108,6 +109,7 @@ after-all b rs =
 
 record Latest (q : Outcome Order) (k : ℕ) (h : History) : Type 0 where
   valid : validOf (h .last .state) ≡ true
+  phase-so : h .last .state .phase ≡ phaseIn (ended (h .answers))
   in-turn : length (h .exchanges) ≤ k
   as-ruled : length (h .exchanges) ≡ k → h .last .answer ≡ ruled q (h .exchanges)
   after-end : length (h .exchanges) < k → h .last .answer ≡ stop (because 13)
@@ -160,6 +162,7 @@ latest-of q k h (open-so {o = o} {x = x} {p = p} {n = n} {xs = xs} {es = es} g) 
     let e = g .each in
     record {
       valid = valid-going o k x p n xs es g;
+      phase-so = ap phaseIn (sym (g .not-ended));
       in-turn = omega arith;
       as-ruled = λ z. sym r;
       after-end = λ z. absurd (omega arith);
@@ -186,6 +189,7 @@ latest-of q k h (open-so {o = o} {x = x} {p = p} {n = n} {xs = xs} {es = es} g) 
 latest-of q k h (over-so v) =
     record {
       valid = ended-valid (h .last .state) (v .state-ended);
+      phase-so = v .phase-so;
       in-turn = v .each;
       as-ruled = v .then;
       after-end = v .later;
@@ -373,6 +377,7 @@ module _ (b : List ℕ) (rs : List Reply) where
         is-valid = l .valid;
         never-stale = l .fresh;
         never-skips = λ o e. (each-unskipped o (h .exchanges) (played-here o e), l .unskipped o e (played-here o e));
+        phase-so = l .phase-so;
         shows = λ o e z. l .shows o e (played-here o e) z;
       }
 

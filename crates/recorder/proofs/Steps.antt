@@ -21,7 +21,7 @@ use Rattle.recorder.specs.Script.{stepwise}
 use Rattle.recorder.specs.Exchanges.{Exchange, seen, named}
 use Rattle.recorder.specs.Rules.{judged, move, left, none, found, refusedBy, firstRefused, ruled, exchanged}
 use Rattle.recorder.specs.Job.{Next, dueAt, commandOf, Turn, goes, turnOf, mostCommands, oneMore, stateOf, nextOf, phaseOf, stepOf, unchanged, stands, restsAt, validOf, giveOf}
-use Rattle.recorder.specs.History.{History, given, commandIn, commands, Ending, going, as-done, as-stop, ending, sooner, ended, Each, Fresh, answered}
+use Rattle.recorder.specs.History.{History, given, commandIn, commands, Ending, going, as-done, as-stop, ending, sooner, ended, phaseIn, Each, Fresh, answered}
 use Rattle.recorder.proofs.Lists.{clash, if-yes, false-true}
 use Rattle.recorder.proofs.Turns.{made}
 use Rattle.recorder.proofs.Rulings.{refused-next, ruled-at, ruled-stop}
@@ -59,6 +59,7 @@ isEnd (stop w) = true
 pub record Over (q : Outcome Order) (k : ℕ) (h : History) : Type 0 where
   pub answer-ends : isEnd (h .last .answer) ≡ true
   pub state-ended : restsAt (h .last .state .phase) ≡ true
+  pub phase-so : h .last .state .phase ≡ phaseIn (ended (h .answers))
   pub rules-over : isEnd (ruled q (h .exchanges)) ≡ true
   pub so-ended : ended (h .answers) ≡ ending (ruled q (h .exchanges))
   pub counts : h .last .state .count ≡ min (length (commands (h .answers))) mostCommands
@@ -116,6 +117,7 @@ again q k h y v =
     record {
       answer-ends = refl;
       state-ended = v .state-ended;
+      phase-so = v .phase-so ∙ ap phaseIn (sym (ended-stays (ended (h .answers)) _ (λ e. not-going (ruled q (h .exchanges)) (v .rules-over) (sym (v .so-ended) ∙ e))));
       rules-over = subst (λ (l : List Exchange). isEnd (ruled q l) ≡ true) s (v .rules-over);
       so-ended = ended-stays (ended (h .answers)) _ (λ e. not-going (ruled q (h .exchanges)) (v .rules-over) (sym (v .so-ended) ∙ e)) ∙ subst (λ (l : List Exchange). ended (h .answers) ≡ ending (ruled q l)) s (v .so-ended);
       counts = v .counts;
@@ -172,8 +174,8 @@ module _ (o : Order) (k : ℕ) (x : Op) (p : Poll) (n : ℕ) (xs : List Ruling) 
       }
 
   -- to an end that the rules say too
-  end-at : (f : Phase) (a : Ruling) → restsAt f ≡ true → isEnd a ≡ true → commandIn a ≡ [] → ruled (pass o) (e ∷ es) ≡ a → Over (pass o) (suc k) (record { last = nextOf (stateOf o (at x p v) f n) a; answers = a ∷ xs; exchanges = e ∷ es })
-  end-at f a z t m r =
+  end-at : (f : Phase) (a : Ruling) → f ≡ phaseIn (ending a) → restsAt f ≡ true → isEnd a ≡ true → commandIn a ≡ [] → ruled (pass o) (e ∷ es) ≡ a → Over (pass o) (suc k) (record { last = nextOf (stateOf o (at x p v) f n) a; answers = a ∷ xs; exchanges = e ∷ es })
+  end-at f a d z t m r =
       let c = g .counts in
       let b = g .each in
       let l : commands (a ∷ xs) ≡ commands xs = ap (λ (w : List Command). w ++ commands xs) m in
@@ -181,6 +183,7 @@ module _ (o : Order) (k : ℕ) (x : Op) (p : Poll) (n : ℕ) (xs : List Ruling) 
       record {
         answer-ends = t;
         state-ended = z;
+        phase-so = d ∙ ap (λ (w : Ending). phaseIn (sooner w (ending a))) (sym (g .not-ended));
         rules-over = ap isEnd r ∙ t;
         so-ended = ap (λ (w : Ending). sooner w (ending a)) (g .not-ended) ∙ ap ending (sym r);
         counts = omega arith;
@@ -203,8 +206,8 @@ module _ (o : Order) (k : ℕ) (x : Op) (p : Poll) (n : ℕ) (xs : List Ruling) 
     where
       go : Moved o x p v (named es) (reading d y) → Goal (turnOf o (at x p v) (reading d y))
       go (on-to z q t j m s) = subst Goal (sym t) (open-so (on z q t j m s))
-      go (stops w t j) = subst Goal (sym t) (over-so (end-at (phaseOf w) (stop w) (stopped-rests w) refl refl (ruled-stop o (e ∷ es) w (refused-next o es e (found w) (g .unrefused) j))))
-      go (ends t j m) = subst Goal (sym t) (over-so (end-at Finished done refl refl refl (ruled-at o (e ∷ es) [] (refused-next o es e none (g .unrefused) j) (ap (move (judged o es e)) (g .plan) ∙ m))))
+      go (stops w t j) = subst Goal (sym t) (over-so (end-at (phaseOf w) (stop w) refl (stopped-rests w) refl refl (ruled-stop o (e ∷ es) w (refused-next o es e (found w) (g .unrefused) j))))
+      go (ends t j m) = subst Goal (sym t) (over-so (end-at Finished done refl refl refl refl (ruled-at o (e ∷ es) [] (refused-next o es e none (g .unrefused) j) (ap (move (judged o es e)) (g .plan) ∙ m))))
 
 -- any reply
 pub next-inv : (q : Outcome Order) (k : ℕ) (h : History) (y : Reply) → Inv q k h → Inv q (suc k) (given h y)

@@ -573,8 +573,7 @@ module _ (o : Order) (z : Sized o) (ok : Recordable o) (p q : ℕ) (su : Suitabl
       let es : List Exchange = play (pass o) [] (replies k) in
       let w = i .lighter in
       let e : left o es ≡ [] = none-left (left o es) (omega arith) in
-      let b = at-last (left o es) (seen (o .method) es) (named es) e (i .packed .stage) in
-      (
+      let b = at-last (left o es) (seen (o .method) es) (named es) e (i .packed .stage) in (
         replies k,
         record { all-bytes = i .all-bytes; marked = i .marked; unrefused = i .packed .unrefused; enough = ruled-at o es [] (i .packed .unrefused) e; of-profile = b .0; of-status = b .1 },
       )

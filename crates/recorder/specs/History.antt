@@ -19,13 +19,15 @@ use Rattle.mmc.specs.declared.order.Order.{Order}
 use Rattle.recorder.specs.declared.script.Op.{Op}
 use Rattle.recorder.specs.declared.script.Op.the-variants.{ModeSelect, SendCueSheet}
 use Rattle.recorder.specs.declared.answers.Command.{Command}
+use Rattle.recorder.specs.declared.job.Phase.{Phase}
+use Rattle.recorder.specs.declared.job.Phase.the-variants.{Going, Finished}
 use Rattle.recorder.specs.declared.job.Recorder.{Recorder}
 use Rattle.recorder.specs.declared.job.Step.{Step}
 use Rattle.recorder.specs.Answers.{Why, because, Ruling, issue, done, stop, sheetBytes, madeFor, bytesIn}
 use Rattle.recorder.specs.Script.{gather, asksReady, isPoll, stepwise, write, Block, script, expected}
 use Rattle.recorder.specs.Exchanges.{Exchange, recorded, occupied, polling, progress, seen, Named, named}
 use Rattle.recorder.specs.Rules.{otherProfile, unsuitable, mixedOrKept, none, found, refusal, ruled, exchanged, play, orderedIn, AllClosed}
-use Rattle.recorder.specs.Job.{Next, nextIn, mostCommands, latestProgress, unchanged, validOf, idleRecorder, takeOf, giveOf}
+use Rattle.recorder.specs.Job.{Next, nextIn, mostCommands, phaseOf, latestProgress, unchanged, validOf, idleRecorder, takeOf, giveOf}
 
 -- what the calls gave back since the order was taken: the last step; all answers, and the commands with the replies to them, the
 -- latest first
@@ -84,6 +86,12 @@ sooner (as-stop w) x = as-stop w
 abbrev pub ended : List Ruling → Ending
 ended [] = going
 ended (a ∷ xs) = sooner (ended xs) (ending a)
+
+-- how the recorder's state says so
+abbrev pub phaseIn : Ending → Phase
+phaseIn going = Going
+phaseIn as-done = Finished
+phaseIn (as-stop w) = phaseOf w
 
 -- ---- what goes with a command that is given
 
@@ -184,8 +192,10 @@ pub record Whole (b : List ℕ) (rs : List Reply) (h : History) : Type 0 where
   pub is-valid : validOf (h .last .state) ≡ true
   -- "a track begun at a stale address spoils the disc": of every WRITE that is given
   pub never-stale : (o : Order) → readOrder b ≡ pass o → stepwise (o .method) ≡ true → Every Fresh (h .exchanges) (h .last .answer)
-  -- "progress never skips a step", and the panel's is that of the polling under way
+  -- "progress never skips a step"
   pub never-skips : (o : Order) → readOrder b ≡ pass o → Every (Unskipped (o .immed)) (h .exchanges) (h .last .answer)
+  -- what the panel shows: how the job stands, and while it goes on the progress of the polling under way
+  pub phase-so : h .last .state .phase ≡ phaseIn (ended (h .answers))
   pub shows : (o : Order) → readOrder b ≡ pass o → ended (h .answers) ≡ going → latestProgress (h .last .state .progress) ≡ if (polling (o .immed) (h .exchanges)) (progress (h .exchanges)) 0
 
 -- ---- part 7 speaks of something

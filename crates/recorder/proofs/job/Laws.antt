@@ -29,34 +29,25 @@ use Rattle.recorder.specs.declared.replies.TrackInformation.{TrackInform
 use Rattle.recorder.specs.declared.replies.Reading.{Reading}
 use Rattle.recorder.specs.declared.replies.Reading.the-variants.{Busy, NotReady, Failed, Malformed, Profile, Status, Information, ProgressIndication, Unread}
 use Rattle.recorder.specs.declared.exchanges.Seen.{Seen}
+use Rattle.recorder.specs.declared.places.Following.{Following}
+use Rattle.recorder.specs.declared.job.Phase.the-variants.{Stopped}
 use Rattle.recorder.specs.declared.job.Poll.{Poll}
 use Rattle.recorder.specs.declared.job.Poll.the-variants.{Off, Ready, Sense}
 use Rattle.recorder.specs.declared.job.Progress.{Progress}
 use Rattle.recorder.specs.declared.job.Recorder.{Recorder}
-use Rattle.recorder.specs.Answers.{because}
+use Rattle.recorder.specs.Answers.{because, stop, cdbOf}
 use Rattle.recorder.specs.Replies.{isBusy, readFailed, isUnready, readUnready, wholeProfile, readProfile, wholeDisc, readStatus, wholeInformation, informationOf, readInformation, readProgress, readGood, failedBy, reading, UnsignedIn, ForTrack}
 use Rattle.recorder.specs.Script.{trackIn, ofWrite, asksReady}
 use Rattle.recorder.specs.Exchanges.{startAt, past, see}
-use Rattle.recorder.specs.Rules.{onward, still, lastFrame, fits, trackTests, judge, refusedBy}
-use Rattle.recorder.specs.Places.{pieceOf, blockAfter}
-use Rattle.recorder.specs.Job.{dueAt, dueIn, inOrder, inPiece, standsAt, standsIn, standsPolled, stands, Prepared, restsAt, idleRecorder, Next, goes, halt, turnOf, stepOf, unchanged, opening, takenAs, takeOf, giveOf}
+use Rattle.recorder.specs.Rules.{Judgement, onward, still, lastFrame, fits, trackTests, judge, refusedBy}
+use Rattle.recorder.specs.Places.{pieceOf, blockAfter, opAfter, afterIn}
+use Rattle.recorder.specs.Job.{dueAt, dueIn, inOrder, inPiece, standsAt, standsIn, standsPolled, stands, Prepared, restsAt, idleRecorder, Next, Turn, goes, halt, onwardBy, turnBy, turnOf, stateOf, stepOf, unchanged, opening, takenAs, takeOf, giveOf}
 use Rattle.recorder.proofs.Lists.{both, passed-clear}
 use Rattle.recorder.proofs.Apart.{passed}
 use Rattle.recorder.proofs.Standing.{limits}
 use Rattle.recorder.specs.History.{Rests}
 use Rattle.recorder.proofs.Makes.{of-piece}
 use Rattle.recorder.proofs.Steps.{give-over}
-
--- ---- the blocks of a piece
-
--- past the last row there is no track
-pub no-row : (o : Order) (t : ℕ) → length (o .tracks) ≡ 99 → 99 < t → 0 ≡ pieceOf o t
-no-row o zero z h = absurd (omega arith)
-no-row o (suc t) z h = ap (λ (x : Track). x .length .0) (sym (List·getD-eq-default (o .tracks) noTrack {n = t} (omega arith)))
-
-pub row : (o : Order) (t : ℕ) → (t ≡ 0 → ⊥) → getD (o .tracks) (t - 1) noTrack .length .0 ≡ pieceOf o t
-row o zero n = absurd (n refl)
-row o (suc t) n = let e : suc t - 1 ≡ t = omega arith in rw e
 
 -- ---- the pieces of a place, and the test of it
 
@@ -186,18 +177,32 @@ prepared o s good d w h b e =
     let q = sound (o .method) (o .count) _ _ (s .seen .at) d b (s .place) (s .poll) good (in-place o s p) in
     record { length-is = w .length-is; next-is = w .next-is; passes = p; unsigned = rw e (q .0); for-track = rw e (q .1) }
 
+-- ---- a step
+
+-- onward without polls in front
+pub turned : (o : Order) (s : Progress) (r : Reading) {l k : ℕ} {d : Op} {f : Following} {w : Seen} {t : Turn} → judge o (s .seen) (dueIn s) r ≡ onward [] → d ≡ dueIn s → w ≡ see (o .method) d r (s .seen) → l ≡ pieceOf o (trackIn (s .place)) → k ≡ pieceOf o (suc (trackIn (s .place))) → f ≡ opAfter (o .method) (o .count) l k (s .place) → t ≡ onwardBy (s .poll) (s .place) f w → t ≡ turnOf o s r
+turned o s r {k = k} {w = w} j i e x y h q =
+    q ∙
+    ap (λ (g : Following). onwardBy (s .poll) (s .place) g w) (h ∙ ap (λ (n : ℕ). opAfter (o .method) (o .count) n k (s .place)) x ∙ ap (λ (n : ℕ). opAfter (o .method) (o .count) (pieceOf o (trackIn (s .place))) n (s .place)) y) ∙
+    ap (λ (v : Seen). onwardBy (s .poll) (s .place) (afterIn o (s .place)) v) (e ∙ ap (λ (a : Op). see (o .method) a r (s .seen)) i) ∙
+    ap (λ (a : Judgement). turnBy a o s r) (sym j)
+
+-- a stop, by its number
+pub stopped-so : (o : Order) (s : Progress) (n : ℕ) (r : Refusal) {k : ℕ} {x : Next} → k ≡ numberOf r → x ≡ record { state = stateOf o s (Stopped k) n; answer = stop (because (numberOf r)); count = n; cdb = cdbOf [] } → x ≡ stepOf o s n (halt (because (numberOf r)))
+stopped-so o s n r e q = q ∙ ap (λ (j : ℕ). record { state = stateOf o s (Stopped j) n; answer = stop (because (numberOf r)); count = n; cdb = cdbOf [] }) e
+
 -- ---- an order that is taken
 
-module _ (b : List ℕ) (o : Order) {k : Check} {x : Next} (e : checked k o ≡ readOrder b) (z : o ≡ valueOr noOrder (readOrder b)) where
-  pub taken-not : (r : Refusal) → k ≡ C.Refused r → x ≡ stepOf o opening 0 (halt (because (numberOf r))) → x ≡ takeOf b
+module _ (b : List ℕ) (o : Order) {s : Progress} {k : Check} {x : Next} (i : s ≡ opening) (e : checked k o ≡ readOrder b) (z : o ≡ valueOr noOrder (readOrder b)) where
+  pub taken-not : (r : Refusal) → k ≡ C.Refused r → x ≡ stepOf o s 0 (halt (because (numberOf r))) → x ≡ takeOf b
   unfolding takeOf
   taken-not r h q =
       let w : refuse (numberOf r) ≡ readOrder b = ap (λ (y : Check). checked y o) (sym h) ∙ e in
-      q ∙ ap (λ (y : Order). stepOf y opening 0 (halt (because (numberOf r)))) (z ∙ ap (valueOr noOrder) (sym w)) ∙ ap takenAs w
+      q ∙ ap (λ (p : Progress). stepOf o p 0 (halt (because (numberOf r)))) i ∙ ap (λ (y : Order). stepOf y opening 0 (halt (because (numberOf r)))) (z ∙ ap (valueOr noOrder) (sym w)) ∙ ap takenAs w
 
-  pub taken : k ≡ C.Passed → x ≡ stepOf o opening 0 (goes opening) → x ≡ takeOf b
+  pub taken : k ≡ C.Passed → x ≡ stepOf o s 0 (goes s) → x ≡ takeOf b
   unfolding takeOf
-  taken h q = q ∙ ap takenAs (ap (λ (y : Check). checked y o) (sym h) ∙ e)
+  taken h q = q ∙ ap (λ (p : Progress). stepOf o p 0 (goes p)) i ∙ ap takenAs (ap (λ (y : Check). checked y o) (sym h) ∙ e)
 
 -- ---- a reply that is given, by the two tests: the job has ended, it can stand where it does
 

@@ -74,6 +74,8 @@ stands-at-spec =
     (λ c. search needs)
     (λ c. search needs)
     (λ c. search needs)
+    (λ c. search needs)
+    (λ c. search needs)
     returns
     returns-2
     returns-3
@@ -83,7 +85,5 @@ stands-at-spec =
     returns-7
     returns-8
     returns-9
-    (λ c. search needs)
     returns-10
-    (λ c. search needs)
     returns-11)

@@ -7,15 +7,17 @@ use Rattle.recorder.proofs.job.Recorder.is_valid.Tie as tie
 
 returns : tie.Need-returns
 unfolding validOf
-returns c = rw (sym (c .before .is-ended .ensures) ∙ c .if1 .taken)
+returns c = rw (sym (c .before .rests-at .ensures) ∙ c .if1 .taken)
 
 returns-2 : tie.Need-returns-2
 unfolding validOf
 returns-2 c =
-    let t = c .before .before .before in
+    let l = c .before .before .before .before in
+    let t = l .before in
     let k = t .before .before .before .before .before in
     let r = k .before .before .args .self in
-    rw (sym (k .before .is-ended .ensures) ∙ k .if1 .left) (tested-so (r .order) (r .progress) (t .track-of .ensures) (c .before .before .piece-length .ensures) (c .before .piece-length2 .ensures) (c .stands-in .ensures) .test-is)
+    rw (sym (k .before .rests-at .ensures) ∙ k .if1 .left)
+    (tested-so (r .order) (r .progress) (t .track-of .ensures) (l .piece-length .ensures) (c .before .before .before .piece-length2 .ensures) (c .before .before .stands-polled .ensures) (c .before .stands-in .ensures) (c .both .ensures) .test-is)
 
 pub is-valid-spec : {M : Type 1} → statement M
 is-valid-spec =
@@ -27,6 +29,8 @@ is-valid-spec =
     (λ c. search needs)
     (λ c κs. search needs)
     (λ c. search needs)
+    (λ c κs. search needs)
+    (λ c κs. search needs)
     (λ c κs. search needs)
     (λ c κs. search needs)
     returns-2)
