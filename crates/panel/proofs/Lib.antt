@@ -1,0 +1,5 @@
+pub mod Halving
+pub mod Cutting
+pub mod Shown
+pub mod Typed
+pub mod Bench
