@@ -208,6 +208,22 @@ mod tests {
         assert_eq!(Refusal::Field.number(), 3);
     }
 
+    /// Flag bits 0 to 2 pass in every mix; any other bit is 3.
+    #[test]
+    fn flag_bytes() {
+        for flags in 0..=255 {
+            let mut block = order_block(&many(2)).unwrap();
+            block[2] = flags;
+            seal(&mut block);
+            match read_order(&block) {
+                Ok(order) => assert!(flags < 8 && order_block(&order) == Ok(block)),
+                Err(refusal) => assert!(flags > 7 && refusal == Refusal::Field),
+            }
+        }
+        let immed = order(Method::Tao, 4, &[(Kind::Data, 300)]);
+        assert!(immed.flags.immed && !immed.flags.keep && !immed.flags.protect);
+    }
+
     #[test]
     fn faults_in_order_1_2_3() {
         let mut block = order_block(&many(2)).unwrap();

@@ -1,11 +1,29 @@
-//! The bytes of the eight commands.
+//! The bytes of the ten commands.
 
 use crate::refusal::{require, Refusal};
 use crate::units::{Address, BlockCount, TrackNumber, FIRST_ADDRESS, LAST_ADDRESS};
+use std::ops::Deref;
 
-/// All commands have 10 bytes.
-pub type Bytes = [u8; 10];
+/// A command's bytes: ten, or six for 00h and 03h.
+#[derive(Clone, Copy, PartialEq, Eq, Debug)]
+pub enum Bytes {
+    Six([u8; 6]),
+    Ten([u8; 10]),
+}
 
+impl Deref for Bytes {
+    type Target = [u8];
+
+    fn deref(&self) -> &[u8] {
+        match self {
+            Bytes::Six(bytes) => bytes,
+            Bytes::Ten(bytes) => bytes,
+        }
+    }
+}
+
+pub const TEST_UNIT_READY: u8 = 0x00;
+pub const REQUEST_SENSE: u8 = 0x03;
 pub const GET_CONFIGURATION: u8 = 0x46;
 pub const READ_DISC_INFORMATION: u8 = 0x51;
 pub const READ_TRACK_INFORMATION: u8 = 0x52;
@@ -20,9 +38,15 @@ pub const CLOSE_SESSION: u8 = 2;
 
 /// A WRITE takes at most this many blocks.
 pub const MOST_BLOCKS: u64 = 16;
+/// Sense data up to its last progress byte.
+pub const SENSE_LENGTH: u8 = 18;
+
+/// Immed in byte 1 of 35h and of 5Bh.
+const SYNCHRONIZE_IMMED: u8 = 0x02;
+const CLOSE_IMMED: u8 = 0x01;
 
 /// A command of an operation code with a length in bytes 7 and 8.
-fn with_length(code: u8, length: u16) -> Bytes {
+fn with_length(code: u8, length: u16) -> [u8; 10] {
     let mut bytes = [0; 10];
     bytes[0] = code;
     bytes[7..9].copy_from_slice(&length.to_be_bytes());
@@ -30,24 +54,24 @@ fn with_length(code: u8, length: u16) -> Bytes {
 }
 
 pub fn get_configuration() -> Bytes {
-    with_length(GET_CONFIGURATION, 8)
+    Bytes::Ten(with_length(GET_CONFIGURATION, 8))
 }
 
 pub fn read_disc_information() -> Bytes {
-    with_length(READ_DISC_INFORMATION, 34)
+    Bytes::Ten(with_length(READ_DISC_INFORMATION, 34))
 }
 
 pub fn read_track_information() -> Bytes {
     let mut bytes = with_length(READ_TRACK_INFORMATION, 48);
     bytes[1] = 0x01;
     bytes[5] = 0xFF;
-    bytes
+    Bytes::Ten(bytes)
 }
 
 pub fn mode_select() -> Bytes {
     let mut bytes = with_length(MODE_SELECT, 60);
     bytes[1] = 0x10;
-    bytes
+    Bytes::Ten(bytes)
 }
 
 /// The length in bytes is 8 times 4 to 102, else 15.
@@ -55,7 +79,7 @@ pub fn send_cue_sheet(length: u64) -> Result<Bytes, Refusal> {
     let valid = length.is_multiple_of(8) && (4..=102).contains(&(length / 8));
     require(valid, Refusal::Range)?;
     // Three bytes hold the length; the first of them, byte 6, stays 0.
-    Ok(with_length(SEND_CUE_SHEET, length as u16))
+    Ok(Bytes::Ten(with_length(SEND_CUE_SHEET, length as u16)))
 }
 
 /// The address is -150 to 449,849 and the count 1 to 16, else 15.
@@ -65,23 +89,53 @@ pub fn write(address: Address, count: BlockCount) -> Result<Bytes, Refusal> {
     require(valid, Refusal::Range)?;
     let mut bytes = with_length(WRITE, count.0 as u16);
     bytes[2..6].copy_from_slice(&(address.0 as i32).to_be_bytes());
-    Ok(bytes)
+    Ok(Bytes::Ten(bytes))
 }
 
-pub fn synchronize_cache() -> Bytes {
-    with_length(SYNCHRONIZE_CACHE, 0)
+/// With Immed, bit 1 of byte 1 is set.
+pub fn synchronize_cache(immed: bool) -> Bytes {
+    let mut bytes = with_length(SYNCHRONIZE_CACHE, 0);
+    if immed {
+        bytes[1] = SYNCHRONIZE_IMMED;
+    }
+    Bytes::Ten(bytes)
 }
 
-/// The function is 1 or 2, else 15; any 16-bit track passes.
-pub fn close_track_session(function: u8, track: TrackNumber) -> Result<Bytes, Refusal> {
+/// The function is 1 or 2, else 15; any 16-bit track passes. With Immed, bit
+/// 0 of byte 1 is set.
+pub fn close_track_session(
+    function: u8,
+    track: TrackNumber,
+    immed: bool,
+) -> Result<Bytes, Refusal> {
     require(
         function == CLOSE_TRACK || function == CLOSE_SESSION,
         Refusal::Range,
     )?;
     let mut bytes = with_length(CLOSE_TRACK_SESSION, 0);
+    if immed {
+        bytes[1] = CLOSE_IMMED;
+    }
     bytes[2] = function;
     bytes[4..6].copy_from_slice(&track.0.to_be_bytes());
-    Ok(bytes)
+    Ok(Bytes::Ten(bytes))
+}
+
+pub fn test_unit_ready() -> Bytes {
+    Bytes::Six([TEST_UNIT_READY, 0, 0, 0, 0, 0])
+}
+
+pub fn request_sense() -> Bytes {
+    Bytes::Six([REQUEST_SENSE, 0, 0, 0, SENSE_LENGTH, 0])
+}
+
+/// Whether a command is a 35h or a 5Bh with Immed set.
+pub fn has_immed(bytes: &[u8]) -> bool {
+    match bytes[0] {
+        SYNCHRONIZE_CACHE => bytes[1] & SYNCHRONIZE_IMMED != 0,
+        CLOSE_TRACK_SESSION => bytes[1] & CLOSE_IMMED != 0,
+        _ => false,
+    }
 }
 
 #[cfg(test)]
@@ -101,7 +155,12 @@ mod tests {
             "52 01 00 00 00 FF 00 00 30 00"
         );
         assert_eq!(plain(&mode_select()), "55 10 00 00 00 00 00 00 3C 00");
-        assert_eq!(plain(&synchronize_cache()), "35 00 00 00 00 00 00 00 00 00");
+        assert_eq!(
+            plain(&synchronize_cache(false)),
+            "35 00 00 00 00 00 00 00 00 00"
+        );
+        assert_eq!(plain(&test_unit_ready()), "00 00 00 00 00 00");
+        assert_eq!(plain(&request_sense()), "03 00 00 00 12 00");
     }
 
     /// Bench sheet: first SAO WRITE.
@@ -136,7 +195,7 @@ mod tests {
 
     #[test]
     fn close_functions() {
-        let close = |function, track| close_track_session(function, TrackNumber(track));
+        let close = |function, track| close_track_session(function, TrackNumber(track), false);
         assert_eq!(
             plain(&close(1, 0xFF).unwrap()),
             "5B 00 01 00 00 FF 00 00 00 00"
@@ -151,5 +210,25 @@ mod tests {
         );
         assert_eq!(close(0, 0), Err(Refusal::Range));
         assert_eq!(close(3, 0), Err(Refusal::Range));
+    }
+
+    #[test]
+    fn immed_bits() {
+        assert_eq!(
+            plain(&synchronize_cache(true)),
+            "35 02 00 00 00 00 00 00 00 00"
+        );
+        let close = |function, track| close_track_session(function, TrackNumber(track), true);
+        assert_eq!(
+            plain(&close(1, 0xFF).unwrap()),
+            "5B 01 01 00 00 FF 00 00 00 00"
+        );
+        assert_eq!(
+            plain(&close(2, 0).unwrap()),
+            "5B 01 02 00 00 00 00 00 00 00"
+        );
+        assert_eq!(close(3, 0), Err(Refusal::Range));
+        assert!(has_immed(&synchronize_cache(true)) && has_immed(&close(2, 0).unwrap()));
+        assert!(!has_immed(&synchronize_cache(false)) && !has_immed(&read_track_information()));
     }
 }

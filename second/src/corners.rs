@@ -1,8 +1,10 @@
 //! A fixed set of named jobs, at least one for each sentence of document 01
-//! that a job can show.
+//! that a job can show. Those of document 02, Ask 1, stand in
+//! `polling_corners`.
 
 use crate::blocks::{seal, BLOCK};
 use crate::hex;
+use crate::polling_corners::polling;
 use crate::text::blocks_of;
 
 /// A named job: the print program's input, its last line by document 01, and
@@ -15,9 +17,9 @@ pub struct Corner {
 }
 
 /// The opening's good replies on a blank disc with ample room.
-const OPEN: &str = "good profile 0009\ngood disc blank\ngood track nwa 0 free 300000\n";
+pub(crate) const OPEN: &str = "good profile 0009\ngood disc blank\ngood track nwa 0 free 300000\n";
 /// The first two of them.
-const TWO: &str = "good profile 0009\ngood disc blank\n";
+pub(crate) const TWO: &str = "good profile 0009\ngood disc blank\n";
 /// TAO of one track of 300 after the opening: 55h, 19 WRITEs, 35h, two 5Bh.
 const TAO_300: &str = "23 x good\n";
 /// SAO of one track of 300 after the opening: 55h, 5Dh, 10 and 19 WRITEs, 35h.
@@ -44,17 +46,18 @@ pub fn corners() -> Vec<Corner> {
     busy_replies(&mut list);
     recording(&mut list);
     counts(&mut list);
+    polling(&mut list);
     list.0
 }
 
 /// A byte's place in a job: the block's number, the byte's, and its new value.
-type Change = (usize, usize, u8);
+pub(crate) type Change = (usize, usize, u8);
 
-struct List(Vec<Corner>);
+pub(crate) struct List(Vec<Corner>);
 
 impl List {
     /// A job from its text.
-    fn job(&mut self, name: &str, ends: &str, shows: &str, text: &str) {
+    pub(crate) fn job(&mut self, name: &str, ends: &str, shows: &str, text: &str) {
         self.push(name, ends, shows, bytes_of(name, text));
     }
 
@@ -64,7 +67,7 @@ impl List {
     }
 
     /// A job with one byte of one block changed and its check made good.
-    fn changed(&mut self, name: &str, ends: &str, shows: &str, text: &str, at: Change) {
+    pub(crate) fn changed(&mut self, name: &str, ends: &str, shows: &str, text: &str, at: Change) {
         let mut bytes = changed_bytes(name, text, at);
         if let Some(block) = bytes[at.0 * BLOCK..].first_chunk_mut::<BLOCK>() {
             seal(block);
@@ -73,7 +76,7 @@ impl List {
     }
 
     /// A job with one byte of one block changed and its check left alone.
-    fn unsealed(&mut self, name: &str, ends: &str, shows: &str, text: &str, at: Change) {
+    pub(crate) fn unsealed(&mut self, name: &str, ends: &str, shows: &str, text: &str, at: Change) {
         self.push(name, ends, shows, changed_bytes(name, text, at));
     }
 
@@ -147,9 +150,9 @@ fn order_blocks(list: &mut List) {
         let name = format!("order-method-{value}");
         list.changed(&name, "stop 3 0", "order: the method is neither 1 nor 2: 3", job, (0, 1, value));
     }
-    for value in [4, 8, 0x80, 255] {
+    for value in [8, 0x0C, 0x80, 255] {
         let name = format!("order-flags-{value}");
-        list.changed(&name, "stop 3 0", "order: a flag bit besides 0 and 1: 3", job, (0, 2, value));
+        list.changed(&name, "stop 3 0", "order: a flag bit besides 0 to 2: 3", job, (0, 2, value));
     }
     for value in [0, 100, 101, 255] {
         let name = format!("order-count-{value}");
@@ -499,7 +502,7 @@ fn failures_everywhere(list: &mut List) {
     }
 }
 
-fn join(lines: &[String]) -> String {
+pub(crate) fn join(lines: &[String]) -> String {
     lines.iter().map(|line| format!("{line}\n")).collect()
 }
 

@@ -1,10 +1,12 @@
-//! The plain job of document 01, "Recording rules": an order is taken, then
-//! replies are given; each time a command, the end as done, or a refusal
-//! comes out.
+//! The plain job of document 01, "Recording rules", with the polling of
+//! document 02, Ask 1: an order is taken, then replies are given; each time a
+//! command, the end as done, or a refusal comes out.
 //!
 //! The job is a flat list of steps with a place in it. The three opening
 //! steps stand there from the start; the others are laid down once the third
-//! reply has passed the checks, so that the list stays short.
+//! reply has passed the checks, so that the list stays short. With Immed, a
+//! 00h and a 03h stand behind each 35h and 5Bh; they are gone through until
+//! the drive has finished.
 
 use crate::blocks::{read_order, Reply, Status};
 use crate::commands::{self, Bytes, CLOSE_SESSION, CLOSE_TRACK, MOST_BLOCKS};
@@ -43,18 +45,22 @@ pub enum Answer {
     Refused(Refusal),
 }
 
+/// A place in the sequence of commands. An index is that of the track.
 #[derive(Clone, Copy, PartialEq, Eq, Debug)]
-enum Step {
+pub enum Step {
     GetConfiguration,
     ReadDiscInformation,
-    /// 52h ahead of the track with this index.
+    /// 52h ahead of its track.
     ReadTrackInformation(usize),
-    ModeSelect,
+    ModeSelect(usize),
     SendCueSheet,
     Write(Blocks),
-    SynchronizeCache,
-    CloseTrack,
+    /// In SAO with the last track's index.
+    SynchronizeCache(usize),
+    CloseTrack(usize),
     CloseSession,
+    TestUnitReady,
+    RequestSense,
 }
 
 const OPENING: [Step; 3] = [
@@ -76,7 +82,11 @@ pub struct Job {
     /// Where the next WRITE starts: at the address of the latest 52h in TAO,
     /// at -150 in SAO, afterwards where the last good WRITE ended.
     address: Address,
-    /// Commands given, repeats too.
+    /// Whether the latest 00h was answered good.
+    ready: bool,
+    /// What the latest good 03h of the polling said; 0 before its first.
+    progress: u16,
+    /// Commands given, repeats and polls too.
     count: u64,
 }
 
@@ -106,7 +116,28 @@ impl Job {
             profile: 0,
             disc: Disc::Other,
             address: Address(FIRST_ADDRESS),
+            ready: false,
+            progress: 0,
             count: 0,
+        }
+    }
+
+    /// The order, unless it was refused as 1 to 3.
+    pub fn order(&self) -> Option<&Order> {
+        self.order.as_ref()
+    }
+
+    /// The step whose command was given last.
+    pub fn step(&self) -> Step {
+        // The place moves past the last step only where the job ends.
+        self.steps[self.place.min(self.steps.len() - 1)]
+    }
+
+    /// The latest progress of a polling under way, else 0.
+    pub fn progress(&self) -> u16 {
+        match self.step() {
+            Step::TestUnitReady | Step::RequestSense if !self.ended => self.progress,
+            _ => 0,
         }
     }
 
@@ -130,8 +161,14 @@ impl Job {
         }
     }
 
-    /// Busy: the same command again. Failed otherwise: the end, 12.
+    /// Busy: the same command again. Failed otherwise: the end, 12. A 00h is
+    /// never busy; after one that is not ready the 03h follows all the same.
     fn failed(&mut self, data: &[u8]) -> Answer {
+        if self.step() == Step::TestUnitReady && replies::not_ready(data) {
+            self.ready = false;
+            self.place += 1;
+            return self.command();
+        }
         match replies::failure(data) {
             Failure::Busy => self.command(),
             Failure::Stop(sense) => self.end(Answer::Refused(Refusal::Failed(sense))),
@@ -144,12 +181,23 @@ impl Job {
         if let Err(refusal) = self.judge(data) {
             return self.end(Answer::Refused(refusal));
         }
-        self.place += 1;
+        if self.goes_round() {
+            self.place -= 1;
+        } else {
+            self.place += 1;
+        }
         if self.place < self.steps.len() {
             self.command()
         } else {
             self.end(Answer::Done)
         }
+    }
+
+    /// After a good 03h: 00h comes again, until it succeeds and the 03h after
+    /// it reports progress 0.
+    fn goes_round(&self) -> bool {
+        let finished = self.ready && self.progress == 0;
+        self.step() == Step::RequestSense && !finished
     }
 
     fn end(&mut self, answer: Answer) -> Answer {
@@ -160,7 +208,7 @@ impl Job {
     /// Reads and judges the good reply to the step at the job's place. The
     /// data of a reply to a data-less command is ignored.
     fn judge(&mut self, data: &[u8]) -> Result<(), Refusal> {
-        match self.steps[self.place] {
+        match self.step() {
             Step::GetConfiguration => self.profile = replies::profile(data)?,
             Step::ReadDiscInformation => self.disc = replies::disc(data)?,
             Step::ReadTrackInformation(index) => {
@@ -168,7 +216,13 @@ impl Job {
                 self.judge_track(index, info)?;
             }
             Step::Write(blocks) => self.address = self.address.after(blocks.count),
-            _ => {}
+            Step::TestUnitReady => self.ready = true,
+            Step::RequestSense => self.progress = replies::progress(data)?,
+            Step::SynchronizeCache(_) | Step::CloseTrack(_) | Step::CloseSession => {
+                // A polling may begin here.
+                self.progress = 0;
+            }
+            Step::ModeSelect(_) | Step::SendCueSheet => {}
         }
         Ok(())
     }
@@ -197,7 +251,7 @@ impl Job {
 
     /// Gives the command at the job's place.
     fn command(&mut self) -> Answer {
-        let step = self.steps[self.place];
+        let step = self.step();
         match self.bytes(step) {
             Ok(bytes) => {
                 self.count = self.count.saturating_add(1);
@@ -213,21 +267,28 @@ impl Job {
     }
 
     fn bytes(&self, step: Step) -> Result<Bytes, Refusal> {
+        let immed = self.order().is_some_and(|order| order.flags.immed);
         Ok(match step {
             Step::GetConfiguration => commands::get_configuration(),
             Step::ReadDiscInformation => commands::read_disc_information(),
             Step::ReadTrackInformation(_) => commands::read_track_information(),
-            Step::ModeSelect => commands::mode_select(),
+            Step::ModeSelect(_) => commands::mode_select(),
             Step::SendCueSheet => commands::send_cue_sheet(self.sheet_length())?,
             Step::Write(blocks) => commands::write(self.address, blocks.count)?,
-            Step::SynchronizeCache => commands::synchronize_cache(),
-            Step::CloseTrack => commands::close_track_session(CLOSE_TRACK, INVISIBLE_TRACK)?,
-            Step::CloseSession => commands::close_track_session(CLOSE_SESSION, TrackNumber(0))?,
+            Step::SynchronizeCache(_) => commands::synchronize_cache(immed),
+            Step::CloseTrack(_) => {
+                commands::close_track_session(CLOSE_TRACK, INVISIBLE_TRACK, immed)?
+            }
+            Step::CloseSession => {
+                commands::close_track_session(CLOSE_SESSION, TrackNumber(0), immed)?
+            }
+            Step::TestUnitReady => commands::test_unit_ready(),
+            Step::RequestSense => commands::request_sense(),
         })
     }
 
     fn sheet_length(&self) -> u64 {
-        let tracks = self.order.as_ref().map_or(0, |order| order.tracks.len());
+        let tracks = self.order().map_or(0, |order| order.tracks.len());
         (ENTRY * (tracks + MORE_ENTRIES)) as u64
     }
 }
@@ -291,31 +352,41 @@ fn recording(order: &Order) -> Vec<Step> {
 }
 
 /// TAO, each track: 52h before each but the first; 55h; WRITEs; 35h; 5Bh
-/// function 1. After the last track: 5Bh function 2.
+/// function 1. After the last track: 5Bh function 2. Pollings come behind.
 fn tao(order: &Order) -> Vec<Step> {
     let mut steps = Vec::new();
     for (index, track) in order.tracks.iter().enumerate() {
         if index > 0 {
             steps.push(Step::ReadTrackInformation(index));
         }
-        steps.push(Step::ModeSelect);
+        steps.push(Step::ModeSelect(index));
         steps.extend(writes(number(index), track.length.into()));
-        steps.push(Step::SynchronizeCache);
-        steps.push(Step::CloseTrack);
+        steps.extend(closing(order, Step::SynchronizeCache(index)));
+        steps.extend(closing(order, Step::CloseTrack(index)));
     }
-    steps.push(Step::CloseSession);
+    steps.extend(closing(order, Step::CloseSession));
     steps
 }
 
 /// SAO: 55h; 5Dh; WRITEs of the pause; the tracks; 35h.
 fn sao(order: &Order) -> Vec<Step> {
-    let mut steps = vec![Step::ModeSelect, Step::SendCueSheet];
+    let mut steps = vec![Step::ModeSelect(0), Step::SendCueSheet];
     steps.extend(writes(TrackNumber(0), PAUSE));
     for (index, track) in order.tracks.iter().enumerate() {
         steps.extend(writes(number(index), track.length.into()));
     }
-    steps.push(Step::SynchronizeCache);
+    let last = order.tracks.len() - 1;
+    steps.extend(closing(order, Step::SynchronizeCache(last)));
     steps
+}
+
+/// A 35h or 5Bh, with Immed the polling behind it.
+fn closing(order: &Order, step: Step) -> Vec<Step> {
+    if order.flags.immed {
+        vec![step, Step::TestUnitReady, Step::RequestSense]
+    } else {
+        vec![step]
+    }
 }
 
 fn number(index: usize) -> TrackNumber {
@@ -342,7 +413,9 @@ mod tests {
     use crate::hex::plain;
     use crate::refusal::Sense;
     use crate::text::order_of;
-    use crate::wellformed::{disc_reply, profile_reply, sense_reply, track_reply, TrackFields};
+    use crate::wellformed::{
+        disc_reply, profile_reply, progress_reply, sense_reply, track_reply, TrackFields,
+    };
 
     fn take(line: &str) -> (Job, Answer) {
         Job::take(&order_block(&order_of(line).unwrap()).unwrap())
@@ -632,6 +705,31 @@ mod tests {
         data[7] = 9;
         let (mut job, _) = take("tao data 300");
         assert!(matches!(job.give(&Reply::good(&data)), Answer::Command(_)));
+    }
+
+    /// The latest progress of a polling under way, else 0.
+    #[test]
+    fn progress_of_a_polling() {
+        let (mut job, _) = take("sao immed data 300");
+        let mut replies = opening(0, track(0, 300));
+        replies.extend(vec![Reply::good(&[]); 32]);
+        give_all(&mut job, &replies);
+        assert_eq!((job.step(), job.progress()), (Step::TestUnitReady, 0));
+        job.give(&sense_reply(0xF0, 2, 4, 8));
+        assert_eq!((job.step(), job.progress()), (Step::RequestSense, 0));
+        job.give(&progress_reply(0x8000));
+        job.give(&sense_reply(0x70, 2, 4, 7));
+        job.give(&sense_reply(0x70, 2, 4, 8));
+        assert_eq!((job.step(), job.progress()), (Step::RequestSense, 0x8000));
+        job.give(&progress_reply(0));
+        assert_eq!((job.step(), job.progress()), (Step::TestUnitReady, 0));
+        job.give(&Reply::good(&[]));
+        let mut stopped = job.clone();
+        let short = stopped.give(&Reply::good(&[0; 17]));
+        assert_eq!((short, stopped.progress()), (refused(Refusal::Reply), 0));
+        assert_eq!(job.give(&progress_reply(0)), Answer::Done);
+        assert_eq!((job.progress(), job.count()), (0, 35 + 7));
+        assert_eq!(job.give(&progress_reply(9)), refused(Refusal::Ended));
     }
 
     #[test]

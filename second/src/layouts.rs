@@ -134,13 +134,16 @@ fn make_command(name: &str, words: &[&str]) -> Option<Made> {
             let count: u32 = number(count)?;
             commands::write(Address(number(address)?), BlockCount(count.into()))
         }
-        ("synchronize-cache", []) => Ok(commands::synchronize_cache()),
-        ("close-track-session", [function, track]) => {
-            commands::close_track_session(number(function)?, TrackNumber(number(track)?))
+        ("synchronize-cache", [immed]) => Ok(commands::synchronize_cache(bit(immed)?)),
+        ("close-track-session", [function, track, immed]) => {
+            let track = TrackNumber(number(track)?);
+            commands::close_track_session(number(function)?, track, bit(immed)?)
         }
+        ("test-unit-ready", []) => Ok(commands::test_unit_ready()),
+        ("request-sense", []) => Ok(commands::request_sense()),
         _ => return None,
     };
-    Some(bytes.map(Vec::from))
+    Some(bytes.map(|bytes| bytes.to_vec()))
 }
 
 /// Method, flags, count, and a kind and length for each of up to 99 tracks.
@@ -192,6 +195,15 @@ pub(crate) fn number<T: FromStr>(word: &str) -> Option<T> {
     word.parse().ok()
 }
 
+/// A bit, 0 or 1.
+pub(crate) fn bit(word: &str) -> Option<bool> {
+    match number(word)? {
+        0u8 => Some(false),
+        1 => Some(true),
+        _ => None,
+    }
+}
+
 #[cfg(test)]
 mod tests {
     use super::*;
@@ -213,7 +225,27 @@ mod tests {
         assert_eq!(answer("write 2 -150 16"), "refused 11 A5 A5");
         assert_eq!(answer("mode-select 0"), "refused 11 -");
         assert_eq!(answer("send-cue-sheet 1 33"), "refused 15 A5");
-        assert_eq!(answer("close-track-session 1 3 65535"), "refused 15 A5");
+        assert_eq!(answer("close-track-session 1 3 65535 0"), "refused 15 A5");
+    }
+
+    /// The Immed bits, and the commands of six bytes.
+    #[test]
+    fn polling_commands() {
+        let zeros = " 00".repeat(8);
+        assert_eq!(answer("synchronize-cache 10 0"), format!("ok 35 00{zeros}"));
+        assert_eq!(answer("synchronize-cache 10 1"), format!("ok 35 02{zeros}"));
+        assert_eq!(
+            answer("close-track-session 10 1 255 1"),
+            "ok 5B 01 01 00 00 FF 00 00 00 00"
+        );
+        assert_eq!(
+            answer("close-track-session 10 2 0 0"),
+            "ok 5B 00 02 00 00 00 00 00 00 00"
+        );
+        assert_eq!(answer("test-unit-ready 6"), "ok 00 00 00 00 00 00");
+        assert_eq!(answer("request-sense 7"), "ok 03 00 00 00 12 00 A5");
+        assert_eq!(answer("request-sense 5"), "refused 11 A5 A5 A5 A5 A5");
+        assert_eq!(answer("test-unit-ready 0"), "refused 11 -");
     }
 
     #[test]
@@ -223,6 +255,13 @@ mod tests {
         assert!(written.ends_with(" 00 00 32"));
         let read = written.replacen("ok", "order-read", 1);
         assert_eq!(answer(&read), "ok 2 0 1 1 300");
+        let immed = answer("order-write 512 2 4 1 1 300");
+        assert!(immed.starts_with("ok 01 02 04 01 01 00 00 01 2C 00"));
+        assert!(immed.ends_with(" 00 00 36"));
+        let read = immed.replacen("ok", "order-read", 1);
+        assert_eq!(answer(&read), "ok 2 4 1 1 300");
+        let flags_8 = read.replacen("01 02 04", "01 02 08", 1);
+        assert_eq!(answer(&flags_8.replace("00 36", "00 3A")), "refused 3");
         assert_eq!(answer("order-write 1 2 0 0"), "refused 3 A5");
         let pairs = " 0 300".repeat(99);
         assert_eq!(
@@ -279,7 +318,7 @@ mod tests {
             "order-read",
             "order-read 1",
             "order-write 512 3 0 1 0 300",
-            "order-write 512 1 4 1 0 300",
+            "order-write 512 1 8 1 0 300",
             "order-write 512 1 0 2 0 300",
             "order-write 512 1 0 1 2 300",
             "write 10 0 -1",
@@ -289,8 +328,14 @@ mod tests {
             "nothing",
             "reply-write 512 2 -",
             "page 60 2 1 0 1 0 300",
-            "close-track-session 10 256 0",
-            "close-track-session 10 1 65536",
+            "close-track-session 10 256 0 0",
+            "close-track-session 10 1 65536 0",
+            "close-track-session 10 1 0",
+            "close-track-session 10 1 0 2",
+            "synchronize-cache 10",
+            "synchronize-cache 10 2",
+            "test-unit-ready 6 0",
+            "request-sense",
         ] {
             assert_eq!(answer(request), "bad request", "{request}");
         }

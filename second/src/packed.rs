@@ -13,21 +13,23 @@
 //!  7 read-disc-information
 //!  8 read-track-information
 //!  9 mode-select
-//! 10 synchronize-cache
+//! 10 synchronize-cache        immed
 //! 11 send-cue-sheet           length (4)
 //! 12 write                    address (8), count (4)
-//! 13 close-track-session      function, track (2)
+//! 13 close-track-session      function, track (2), immed
 //! 14 reply-write              status, the bytes
 //! 15 order-write              order
 //! 16 page                     order, kind
 //! 17 sheet                    order
+//! 18 test-unit-ready
+//! 19 request-sense
 //! ```
 //!
-//! An order is its method, flags and count, and 99 rows of kind and length
-//! (4); rows behind its tracks are 0.
+//! An order is its method, flags (1 keep, 2 protect, 4 immed) and count, and
+//! 99 rows of kind and length (4); rows behind its tracks are 0.
 
 use crate::hex;
-use crate::layouts::{is_request, number, order, reply};
+use crate::layouts::{bit, is_request, number, order, reply};
 use crate::text::clip;
 use crate::units::{Order, MOST_TRACKS};
 
@@ -37,7 +39,7 @@ const MOST: usize = 4_096;
 const WIDTH: usize = 120;
 
 /// The operations by their numbers, from 1 on.
-const OPERATIONS: [&str; 17] = [
+const OPERATIONS: [&str; 19] = [
     "time",
     "address",
     "order-read",
@@ -55,6 +57,8 @@ const OPERATIONS: [&str; 17] = [
     "order-write",
     "page",
     "sheet",
+    "test-unit-ready",
+    "request-sense",
 ];
 
 /// The lines of a text that are requests.
@@ -125,9 +129,11 @@ fn maker(name: &str, lent: &str, words: &[&str]) -> Option<Vec<u8>> {
             bytes.extend(number::<i64>(address)?.to_be_bytes());
             bytes.extend(number::<u32>(count)?.to_be_bytes());
         }
-        ("close-track-session", [function, track]) => {
+        ("synchronize-cache", [immed]) => bytes.push(bit(immed)?.into()),
+        ("close-track-session", [function, track, immed]) => {
             bytes.push(number(function)?);
             bytes.extend(number::<u16>(track)?.to_be_bytes());
+            bytes.push(bit(immed)?.into());
         }
         ("reply-write", _) => {
             let reply = reply(words)?;
@@ -181,9 +187,13 @@ mod tests {
             "00 0F 0C 00 0A FF FF FF FF FF FF FF FF 00 00 00 10"
         );
         assert_eq!(
-            hex_of("close-track-session 10 2 65535"),
-            "00 06 0D 00 0A 02 FF FF"
+            hex_of("close-track-session 10 2 65535 1"),
+            "00 07 0D 00 0A 02 FF FF 01"
         );
+        assert_eq!(hex_of("synchronize-cache 10 0"), "00 04 0A 00 0A 00");
+        assert_eq!(hex_of("synchronize-cache 11 1"), "00 04 0A 00 0B 01");
+        assert_eq!(hex_of("test-unit-ready 6"), "00 03 12 00 06");
+        assert_eq!(hex_of("request-sense 7"), "00 03 13 00 07");
         assert_eq!(hex_of("reply-write 512 1 70"), "00 05 0E 02 00 01 70");
     }
 

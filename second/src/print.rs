@@ -2,37 +2,22 @@
 //! an order block and then reply blocks, and prints each command as a line of
 //! hex and last `done N`, `stop R N` or `waiting N`.
 
-use crate::blocks::{read_reply, BLOCK};
+use crate::follow::{follow, Event};
 use crate::hex;
-use crate::job::{Answer, Job};
 use crate::refusal::Refusal;
 use std::io::{self, Read, Write};
 
 /// Prints the job of an input. After its end nothing more is taken.
-pub fn print(mut input: impl Read, output: &mut impl Write) -> io::Result<()> {
-    let (mut job, mut answer) = Job::take(&next_block(&mut input)?);
-    loop {
-        match answer {
-            Answer::Command(command) => command_line(output, &command.bytes)?,
-            Answer::Done => return writeln!(output, "done {}", job.count()),
-            Answer::Refused(refusal) => return stop_line(output, refusal, job.count()),
+pub fn print(input: impl Read, output: &mut impl Write) -> io::Result<()> {
+    follow(input, |job, event| {
+        let count = job.count();
+        match event {
+            Event::Command(command) => command_line(output, &command.bytes),
+            Event::Done => writeln!(output, "done {count}"),
+            Event::Stop(refusal) => stop_line(output, refusal, count),
+            Event::Waiting => writeln!(output, "waiting {count}"),
         }
-        let block = next_block(&mut input)?;
-        if block.is_empty() {
-            return writeln!(output, "waiting {}", job.count());
-        }
-        answer = match read_reply(&block) {
-            Ok(reply) => job.give(&reply),
-            Err(refusal) => Answer::Refused(refusal),
-        };
-    }
-}
-
-/// The next 512 bytes, or what is left of the input.
-fn next_block(input: &mut impl Read) -> io::Result<Vec<u8>> {
-    let mut block = Vec::with_capacity(BLOCK);
-    input.take(BLOCK as u64).read_to_end(&mut block)?;
-    Ok(block)
+    })
 }
 
 fn command_line(output: &mut impl Write, bytes: &[u8]) -> io::Result<()> {

@@ -4,10 +4,12 @@
 use crate::blocks::{order_block, read_reply, reply_block, seal, Reply, Status, BLOCK, CHECK};
 use crate::commands::{
     CLOSE_TRACK_SESSION, GET_CONFIGURATION, MODE_SELECT, READ_DISC_INFORMATION,
-    READ_TRACK_INFORMATION, SEND_CUE_SHEET, SYNCHRONIZE_CACHE, WRITE,
+    READ_TRACK_INFORMATION, REQUEST_SENSE, SEND_CUE_SHEET, SYNCHRONIZE_CACHE, TEST_UNIT_READY,
+    WRITE,
 };
-use crate::drive::{noise, Drive};
+use crate::drive::{noise, Drive, Polling};
 use crate::job::{Answer, Command, Job};
+use crate::polling_random;
 use crate::rng::Rng;
 use crate::units::{Flags, Kind, Method, Order, Track, LAST_ADDRESS, MOST_TRACKS};
 use crate::wellformed::{
@@ -69,6 +71,7 @@ fn flags(rng: &mut Rng, method: Method) -> Flags {
     Flags {
         keep: rng.chance(keep_percent),
         protect: rng.chance(50),
+        immed: rng.chance(50),
     }
 }
 
@@ -246,7 +249,12 @@ impl<'a> Maker<'a> {
             2 => return self.short_order(&block),
             3 => self.damage(&mut block, 0, &[0, 2, 3, 255], "the order's byte 0"),
             4 => self.damage(&mut block, 1, &[0, 3, 255], "the order's method"),
-            5 => self.damage(&mut block, 2, &[4, 7, 0x80, 255], "the order's flags"),
+            5 => self.damage(
+                &mut block,
+                2,
+                &[4, 7, 8, 0x0C, 0x80, 255],
+                "the order's flags",
+            ),
             6 => self.damage(&mut block, 3, &[0, 100, 101, 255], "the order's count"),
             7 => self.damage(&mut block, 4, &[2, 255], "the first track's kind"),
             8 => {
@@ -285,9 +293,10 @@ impl<'a> Maker<'a> {
         block[..length].to_vec()
     }
 
-    /// How many busy replies come ahead of the proper one.
+    /// How many busy replies come ahead of the proper one. A 00h is never
+    /// busy.
     fn busy_row(&mut self, command: &Command) -> u64 {
-        if !self.rng.chance(self.busy_percent) {
+        if command.bytes[0] == TEST_UNIT_READY || !self.rng.chance(self.busy_percent) {
             return 0;
         }
         let row = if self.rng.chance(5) {
@@ -339,6 +348,8 @@ impl<'a> Maker<'a> {
             27..=38 => self.broken(&proper),
             39..=42 => self.input_ends(&proper),
             43..=46 => self.other_reply(),
+            _ if code == TEST_UNIT_READY => reply_given(polling_random::ready(self.rng)),
+            _ if code == REQUEST_SENSE => reply_given(polling_random::sense(self.rng)),
             _ if !reads.contains(&code) => self.ignored_data(),
             47..=64 => self.bad_shape(code, proper),
             _ => self.odd_value(code, previous_end),
@@ -642,6 +653,10 @@ impl<'a> Maker<'a> {
     }
 }
 
+fn reply_given((reply, note): (Reply, String)) -> (Given, String) {
+    (Given::Reply(reply), note)
+}
+
 /// A drive that suits the order in most cases.
 fn drive(rng: &mut Rng, order: &Order, notes: &mut Vec<String>) -> Drive {
     let profile = if rng.chance(97) {
@@ -673,7 +688,18 @@ fn drive(rng: &mut Rng, order: &Order, notes: &mut Vec<String>) -> Drive {
         free,
         gap,
         noisy: rng.chance(40),
+        polling: polling(rng, order),
     }
+}
+
+/// Long pollings only where there are few of them.
+fn polling(rng: &mut Rng, order: &Order) -> Polling {
+    let most_rounds = match order.tracks.len() {
+        0..=2 => rng.pick(&[0, 1, 3, 3, 6, 20]),
+        3..=12 => rng.pick(&[0, 1, 2, 4]),
+        _ => rng.pick(&[0, 0, 1]),
+    };
+    Polling::new(most_rounds, rng.pick(&[0, 30, 60, 100]))
 }
 
 /// Mostly room enough, often by nothing more.
@@ -714,6 +740,9 @@ fn plan(rng: &mut Rng, order: &Order) -> Vec<Odd> {
 
 fn odd_place(rng: &mut Rng, order: &Order) -> Odd {
     let tracks = order.tracks.len() as u64;
+    if order.flags.immed && rng.chance(60) {
+        return odd_poll(rng, order);
+    }
     let code = match rng.below(100) {
         0..=11 => GET_CONFIGURATION,
         12..=23 => READ_DISC_INFORMATION,
@@ -734,6 +763,19 @@ fn odd_place(rng: &mut Rng, order: &Order) -> Odd {
     };
     Odd {
         code,
+        nth: rng.between(1, most) as usize,
+    }
+}
+
+/// At one of the polls, mostly of those that surely come.
+fn odd_poll(rng: &mut Rng, order: &Order) -> Odd {
+    let pollings = match order.method {
+        Method::Tao => 2 * order.tracks.len() as u64 + 1,
+        Method::Sao => 1,
+    };
+    let most = rng.pick(&[pollings, pollings, 2 * pollings]);
+    Odd {
+        code: rng.pick(&[TEST_UNIT_READY, REQUEST_SENSE]),
         nth: rng.between(1, most) as usize,
     }
 }

@@ -1,5 +1,5 @@
-//! "Reading the replies": the fields of good 46h, 51h and 52h replies, and
-//! the sense data of failed ones.
+//! "Reading the replies": the fields of good 46h, 51h, 52h and 03h replies,
+//! and the sense data of failed ones.
 
 use crate::refusal::{require, Refusal, Sense};
 use crate::units::{Address, BlockCount};
@@ -73,6 +73,14 @@ pub fn track_information(data: &[u8]) -> Result<TrackInformation, Refusal> {
     })
 }
 
+/// 03h: at least 18 bytes, else 4. Progress is bytes 16 and 17 when bit 7 of
+/// byte 15 is set, else 0.
+pub fn progress(data: &[u8]) -> Result<u16, Refusal> {
+    require(data.len() >= 18, Refusal::Reply)?;
+    let valid = data[15] & (1 << 7) != 0;
+    Ok(if valid { word(data, 16) } else { 0 })
+}
+
 #[derive(Clone, Copy, PartialEq, Eq, Debug)]
 pub enum Failure {
     /// The drive took nothing; the same command goes again.
@@ -80,28 +88,32 @@ pub enum Failure {
     Stop(Sense),
 }
 
+/// The triple of a failed reply, and whether it is current (70h): 0, 0, 0 and
+/// not current where the reply has none.
+fn sense(data: &[u8]) -> (Sense, bool) {
+    let code = data.first().map_or(0, |byte| byte % 128);
+    let known = data.len() >= 14 && (code == 0x70 || code == 0x71);
+    let (key, asc, ascq) = if known {
+        (data[2] % 16, data[12], data[13])
+    } else {
+        (0, 0, 0)
+    };
+    (Sense { key, asc, ascq }, known && code == 0x70)
+}
+
 /// What a failed reply says. Only current sense data (70h) can say busy;
 /// deferred (71h) cannot.
 pub fn failure(data: &[u8]) -> Failure {
-    let code = data.first().map_or(0, |byte| byte % 128);
-    let known = data.len() >= 14 && (code == 0x70 || code == 0x71);
-    if !known {
-        return Failure::Stop(Sense {
-            key: 0,
-            asc: 0,
-            ascq: 0,
-        });
+    match sense(data) {
+        (BUSY, true) => Failure::Busy,
+        (sense, _) => Failure::Stop(sense),
     }
-    let sense = Sense {
-        key: data[2] % 16,
-        asc: data[12],
-        ascq: data[13],
-    };
-    if code == 0x70 && sense == BUSY {
-        Failure::Busy
-    } else {
-        Failure::Stop(sense)
-    }
+}
+
+/// Whether a failed 00h says not ready: code 70h with 02h/04h, any ASCQ.
+pub fn not_ready(data: &[u8]) -> bool {
+    let (sense, current) = sense(data);
+    current && sense.key == 0x02 && sense.asc == 0x04
 }
 
 #[cfg(test)]
@@ -129,6 +141,43 @@ mod tests {
         assert_eq!(failure(&sense_data(0x70, 2, 13)), stop(0, 0, 0));
         assert_eq!(failure(&sense_data(0x72, 2, 14)), stop(0, 0, 0));
         assert_eq!(failure(&[]), stop(0, 0, 0));
+    }
+
+    /// Any ASCQ, 08h too; deferred sense data never.
+    #[test]
+    fn not_ready_is_current_sense_alone() {
+        for ascq in [0, 1, 4, 7, 8, 0xFF] {
+            let mut data = sense_data(0x70, 2, 14);
+            data[13] = ascq;
+            assert!(not_ready(&data));
+            data[0] = 0xF0;
+            assert!(not_ready(&data));
+            data[0] = 0x71;
+            assert!(!not_ready(&data));
+        }
+        assert!(not_ready(&sense_data(0x70, 0xF2, 16)));
+        assert!(!not_ready(&sense_data(0x70, 3, 14)));
+        assert!(!not_ready(&sense_data(0x70, 2, 13)));
+        assert!(!not_ready(&sense_data(0x72, 2, 14)));
+        assert!(!not_ready(&sense_data(0xF1, 2, 14)));
+        let mut data = sense_data(0x70, 2, 14);
+        data[12] = 0x3A;
+        assert!(!not_ready(&data));
+        assert!(!not_ready(&[]));
+    }
+
+    /// Bytes 15 to 17 count and nothing else.
+    #[test]
+    fn progress_of_sense_data() {
+        let mut data = [0xFF; 19];
+        data[15..18].copy_from_slice(&[0x80, 0x12, 0x34]);
+        assert_eq!(progress(&data), Ok(0x1234));
+        assert_eq!(progress(&data[..18]), Ok(0x1234));
+        assert_eq!(progress(&data[..17]), Err(Refusal::Reply));
+        assert_eq!(progress(&[]), Err(Refusal::Reply));
+        data[15] = 0x7F;
+        assert_eq!(progress(&data), Ok(0));
+        assert_eq!(progress(&[0; 18]), Ok(0));
     }
 
     #[test]

@@ -8,6 +8,10 @@ use crate::units::{Flags, Kind, Method, Order, Track, MOST_TRACKS};
 const LIMIT: u32 = 449_849;
 const KINDS: [Kind; 2] = [Kind::Audio, Kind::Data];
 const METHODS: [Method; 2] = [Method::Tao, Method::Sao];
+/// Flag bytes with Immed, and flag bytes that no order has.
+const FLAG_BYTES: [u8; 13] = [
+    4, 5, 6, 7, 8, 0x0C, 0x0F, 0x10, 0x14, 0x40, 0x80, 0x84, 0xFF,
+];
 
 /// A random request line.
 pub fn random(rng: &mut Rng) -> String {
@@ -74,6 +78,7 @@ fn any_order(rng: &mut Rng) -> Order {
     let flags = Flags {
         keep: rng.chance(30),
         protect: rng.chance(50),
+        immed: rng.chance(50),
     };
     let kind = rng.pick(&KINDS);
     let count = any_count(rng);
@@ -192,7 +197,11 @@ fn random_sheet(rng: &mut Rng) -> String {
 
 fn random_order_read(rng: &mut Rng) -> String {
     let order = any_order(rng);
-    let block = order_block(&order).unwrap_or([0; BLOCK]);
+    let mut block = order_block(&order).unwrap_or([0; BLOCK]);
+    if rng.chance(10) {
+        block[2] = rng.pick(&FLAG_BYTES);
+        seal(&mut block);
+    }
     let used = (4 + 5 * order.tracks.len()).min(BLOCK);
     format!(
         "order-read {}",
@@ -239,7 +248,7 @@ fn changed_block(rng: &mut Rng, mut block: [u8; BLOCK], used: usize) -> Vec<u8> 
     let head = rng.below(4) as usize;
     let place = rng.pick(&[anywhere, in_use, in_use, head, head, 509, used.min(511)]);
     let value = rng.byte();
-    let value = rng.pick(&[value, value, 0, 1, 2, 3, 255, block[place] ^ 1]);
+    let value = rng.pick(&[value, value, 0, 1, 2, 3, 4, 7, 8, 255, block[place] ^ 1]);
     match rng.below(12) {
         0..=3 => block.to_vec(),
         4..=8 => {
@@ -333,20 +342,25 @@ fn change_sheet(rng: &mut Rng, bytes: &mut Vec<u8>) {
 // ---- commands ----
 
 fn random_command(rng: &mut Rng) -> String {
+    if rng.chance(15) {
+        let name = rng.pick(&["test-unit-ready", "request-sense"]);
+        return format!("{name} {}", lent(rng, 6));
+    }
     let lent = lent(rng, 10);
     match rng.below(10) {
         0 => format!("get-configuration {lent}"),
         1 => format!("read-disc-information {lent}"),
         2 => format!("read-track-information {lent}"),
         3 => format!("mode-select {lent}"),
-        4 => format!("synchronize-cache {lent}"),
+        4 => format!("synchronize-cache {lent} {}", rng.below(2)),
         5..=6 => format!("send-cue-sheet {lent} {}", any_sheet_length(rng)),
         7..=8 => format!("write {lent} {} {}", any_address(rng), any_write_count(rng)),
         _ => {
             let function = rng.pick(&[0, 1, 1, 2, 2, 3, 255]);
             let track = rng.next_u64() as u16;
             let track = rng.pick(&[0, 1, 99, 255, 256, 65_535, track]);
-            format!("close-track-session {lent} {function} {track}")
+            let immed = rng.below(2);
+            format!("close-track-session {lent} {function} {track} {immed}")
         }
     }
 }
@@ -389,6 +403,7 @@ pub fn corners() -> Vec<String> {
     sheet_corners(&mut list);
     sheet_read_corners(&mut list);
     command_corners(&mut list);
+    closing_corners(&mut list);
     bad_corners(&mut list);
     list
 }
@@ -440,6 +455,7 @@ fn simple_order(method: Method, flags: u8, count: usize, length: u32) -> Order {
         flags: Flags {
             keep: flags & 1 != 0,
             protect: flags & 2 != 0,
+            immed: flags & 4 != 0,
         },
         tracks: vec![
             Track {
@@ -453,10 +469,14 @@ fn simple_order(method: Method, flags: u8, count: usize, length: u32) -> Order {
 
 fn order_corners(list: &mut Vec<String>) {
     for method in METHODS {
-        for flags in 0..4 {
-            let words = order_words(&simple_order(method, flags, 2, 300));
-            list.push(format!("order-write 512 {words}"));
+        for flags in 0..8 {
+            let order = simple_order(method, flags, 2, 300);
+            list.push(format!("order-write 512 {}", order_words(&order)));
+            list.push(format!("order-write 511 {}", order_words(&order)));
+            let block = order_block(&order).unwrap_or([0; BLOCK]);
+            list.push(format!("order-read {}", hex::plain(&block)));
         }
+        flag_byte_corners(list, method);
     }
     for count in [0, 1, 2, 98, 99, 100, 101, 255] {
         for lent in [0, 1, 511, 512, 513] {
@@ -469,6 +489,7 @@ fn order_corners(list: &mut Vec<String>) {
         flags: Flags {
             keep: true,
             protect: true,
+            immed: true,
         },
         tracks: [(Kind::Data, 300), (Kind::Audio, u32::MAX), (Kind::Data, 0)]
             .map(|(kind, length)| Track { kind, length })
@@ -477,6 +498,17 @@ fn order_corners(list: &mut Vec<String>) {
     for order in [order, simple_order(Method::Sao, 0, 99, 0x0102_0304)] {
         let block = order_block(&order).unwrap_or([0; BLOCK]);
         block_read_corners(list, "order-read", block);
+    }
+}
+
+/// Each of these flag bytes in an order block.
+fn flag_byte_corners(list: &mut Vec<String>, method: Method) {
+    let order = simple_order(method, 0, 1, 300);
+    let mut block = order_block(&order).unwrap_or([0; BLOCK]);
+    for flags in FLAG_BYTES {
+        block[2] = flags;
+        seal(&mut block);
+        list.push(format!("order-read {}", hex::plain(&block)));
     }
 }
 
@@ -529,7 +561,7 @@ fn block_read_corners(list: &mut Vec<String>, name: &str, block: [u8; BLOCK]) {
 fn page_corners(list: &mut Vec<String>) {
     for kind in 0..2 {
         for method in METHODS {
-            for flags in 0..4 {
+            for flags in 0..8 {
                 for count in [0, 1, 99, 100] {
                     let words = order_words(&simple_order(method, flags, count, 0));
                     for lent in [0, 59, 60, 61] {
@@ -546,6 +578,11 @@ fn sheet_corners(list: &mut Vec<String>) {
     let lines = [
         "sheet 40 2 0 2 0 300 0 450",
         "sheet 40 2 2 2 1 300 1 450",
+        "sheet 40 2 4 2 0 300 0 450",
+        "sheet 40 2 6 2 1 300 1 450",
+        "sheet 40 2 5 2 0 300 0 450",
+        "sheet 39 2 4 2 0 300 0 450",
+        "sheet 40 1 4 2 0 300 0 450",
         "sheet 41 2 0 2 0 300 0 450",
         "sheet 39 2 0 2 0 300 0 450",
         "sheet 0 2 0 2 0 300 0 450",
@@ -632,7 +669,6 @@ fn command_corners(list: &mut Vec<String>) {
             "read-disc-information",
             "read-track-information",
             "mode-select",
-            "synchronize-cache",
         ] {
             list.push(format!("{name} {lent}"));
         }
@@ -668,13 +704,28 @@ fn command_corners(list: &mut Vec<String>) {
                 list.push(format!("write {lent} {address} {count}"));
             }
         }
-        for function in [0, 1, 2, 3, 255] {
-            for track in [0, 1, 255, 256, 65_535] {
-                list.push(format!("close-track-session {lent} {function} {track}"));
+    }
+    list.extend((0..=1_000).map(|length| format!("send-cue-sheet 10 {length}")));
+}
+
+/// The commands that close, without and with Immed, and the polls.
+fn closing_corners(list: &mut Vec<String>) {
+    for lent in [0, 1, 9, 10, 11, 20] {
+        for immed in 0..2 {
+            list.push(format!("synchronize-cache {lent} {immed}"));
+            for function in [0, 1, 2, 3, 255] {
+                for track in [0, 1, 255, 256, 65_535] {
+                    list.push(format!(
+                        "close-track-session {lent} {function} {track} {immed}"
+                    ));
+                }
             }
         }
     }
-    list.extend((0..=1_000).map(|length| format!("send-cue-sheet 10 {length}")));
+    for lent in [0, 1, 5, 6, 7, 10, 18] {
+        list.push(format!("test-unit-ready {lent}"));
+        list.push(format!("request-sense {lent}"));
+    }
 }
 
 fn bad_corners(list: &mut Vec<String>) {
@@ -687,6 +738,13 @@ fn bad_corners(list: &mut Vec<String>) {
         "order-read",
         "order-read 0",
         "sheet",
+        "order-write 512 1 8 1 0 300",
+        "synchronize-cache 10",
+        "synchronize-cache 10 2",
+        "close-track-session 10 1 255",
+        "close-track-session 10 1 255 2",
+        "test-unit-ready 6 0",
+        "request-sense",
         "time 0",
     ];
     list.extend(lines.map(str::to_string));
@@ -754,6 +812,12 @@ mod tests {
             ("send-cue-sheet", "refused 15"),
             ("close-track-session", "ok"),
             ("close-track-session", "refused 15"),
+            ("synchronize-cache", "ok"),
+            ("synchronize-cache", "refused 11"),
+            ("test-unit-ready", "ok"),
+            ("test-unit-ready", "refused 11"),
+            ("request-sense", "ok"),
+            ("request-sense", "refused 11"),
         ];
         for (name, ending) in expected {
             assert!(
@@ -770,6 +834,6 @@ mod tests {
             .iter()
             .filter(|request| answer(request) == "bad request")
             .count();
-        assert_eq!(bad, 8);
+        assert_eq!(bad, 15);
     }
 }

@@ -77,10 +77,7 @@ pub fn read_sheet(bytes: &[u8]) -> Result<(Kind, Vec<u32>), Refusal> {
     let (kind, lengths) = guess(bytes).ok_or(Refusal::NoSheet)?;
     let order = Order {
         method: Method::Sao,
-        flags: Flags {
-            keep: false,
-            protect: false,
-        },
+        flags: Flags::default(),
         tracks: lengths
             .iter()
             .map(|&length| Track { kind, length })
@@ -127,8 +124,9 @@ mod tests {
         Order {
             method: Method::Sao,
             flags: Flags {
-                keep: false,
                 protect: true,
+                immed: true,
+                ..Flags::default()
             },
             tracks: lengths
                 .iter()

@@ -2,12 +2,13 @@
 //!
 //! ```text
 //! # a comment
-//! order tao keep protect data 300 data 317
+//! order tao keep protect immed data 300 data 317
 //! good profile 0009
 //! good disc blank            (or appendable, finalized, other)
 //! good track nwa 0 free 300000   (then: damaged, no-address)
+//! good progress 8000         (18 bytes of sense data, 0000 without progress)
 //! 20 x good
-//! busy
+//! busy                       (70h with 02 04 08)
 //! failed 05 21 00            (70h)
 //! failed deferred 05 21 00   (71h)
 //! failed                     (no sense data)
@@ -19,7 +20,7 @@ use crate::blocks::{self, Reply, Status, BLOCK, MOST_DATA};
 use crate::hex;
 use crate::units::{Flags, Kind, Method, Order, Track, MOST_TRACKS};
 use crate::wellformed::{
-    busy_reply, disc_reply, profile_reply, sense_reply, track_reply, TrackFields,
+    busy_reply, disc_reply, profile_reply, progress_reply, sense_reply, track_reply, TrackFields,
 };
 use std::io::{self, BufRead, Read, Write};
 
@@ -160,15 +161,13 @@ fn parse_order(words: &[&str]) -> Parsed<Order> {
 }
 
 fn parse_flags<'a, 'b>(mut words: &'a [&'b str]) -> Parsed<(Flags, &'a [&'b str])> {
-    let mut flags = Flags {
-        keep: false,
-        protect: false,
-    };
-    while let [word @ ("keep" | "protect"), rest @ ..] = words {
-        let flag = if *word == "keep" {
-            &mut flags.keep
-        } else {
-            &mut flags.protect
+    let mut flags = Flags::default();
+    while let [word, rest @ ..] = words {
+        let flag = match *word {
+            "keep" => &mut flags.keep,
+            "protect" => &mut flags.protect,
+            "immed" => &mut flags.immed,
+            _ => break,
         };
         if *flag {
             return Err(format!("`{word}` stands twice"));
@@ -215,6 +214,7 @@ fn parse_reply(words: &[&str]) -> Parsed<Reply> {
         ["good", "profile", profile] => parse_profile(profile),
         ["good", "disc", status] => parse_disc(status),
         ["good", "track", "nwa", nwa, "free", free, marks @ ..] => parse_info(nwa, free, marks),
+        ["good", "progress", progress] => parse_progress(progress),
         ["good", "raw", rest @ ..] => Ok(Reply::good(&hex_bytes(rest)?)),
         ["busy"] => Ok(busy_reply()),
         ["failed"] => Ok(Reply::failed(&[])),
@@ -228,12 +228,20 @@ fn parse_reply(words: &[&str]) -> Parsed<Reply> {
     }
 }
 
-fn parse_profile(word: &str) -> Parsed<Reply> {
+fn hex_word(word: &str) -> Option<u16> {
     let four_digits = word.len() == 4 && word.bytes().all(|byte| byte.is_ascii_hexdigit());
-    match u16::from_str_radix(word, 16) {
-        Ok(profile) if four_digits => Ok(profile_reply(profile)),
-        _ => Err(format!("`{word}` is no profile of four hex digits")),
-    }
+    let number = u16::from_str_radix(word, 16).ok();
+    number.filter(|_| four_digits)
+}
+
+fn parse_profile(word: &str) -> Parsed<Reply> {
+    let profile = hex_word(word).ok_or(format!("`{word}` is no profile of four hex digits"))?;
+    Ok(profile_reply(profile))
+}
+
+fn parse_progress(word: &str) -> Parsed<Reply> {
+    let progress = hex_word(word).ok_or(format!("`{word}` is no progress of four hex digits"))?;
+    Ok(progress_reply(progress))
 }
 
 fn parse_disc(word: &str) -> Parsed<Reply> {
@@ -334,6 +342,9 @@ fn order_line(order: &Order) -> String {
     if order.flags.protect {
         words.push("protect".to_string());
     }
+    if order.flags.immed {
+        words.push("immed".to_string());
+    }
     for track in &order.tracks {
         words.push(match track.kind {
             Kind::Audio => format!("audio {}", track.length),
@@ -372,6 +383,13 @@ fn named_line(reply: &Reply) -> Option<(String, Reply)> {
             let status = data[2] & 3;
             let line = format!("good disc {}", DISCS[usize::from(status)]);
             Some((line, disc_reply(status)))
+        }
+        (Status::Good, 18) => {
+            let progress = u16::from_be_bytes([data[16], data[17]]);
+            Some((
+                format!("good progress {progress:04X}"),
+                progress_reply(progress),
+            ))
         }
         (Status::Good, 48) => Some(named_info(data)),
         (Status::Failed, 18) => Some(named_sense(data)),
@@ -424,6 +442,8 @@ good track nwa 0 free 300000
 good track nwa 4294967295 free 0 damaged no-address
 good track nwa 5 free 7 no-address
 20 x good
+good progress 0000
+good progress 80FF
 3 x busy
 failed 05 21 00
 failed deferred 02 04 08
@@ -431,13 +451,15 @@ failed
 good raw 01
 failed raw F0 00 02
 order sao audio 300 audio 450
+order sao immed audio 300
+order tao keep protect immed data 300
 block 02 00 00
 ";
 
     #[test]
     fn text_to_blocks_and_back() {
         let bytes = blocks_of(SAMPLE).unwrap();
-        assert_eq!(bytes.len(), 35 * BLOCK + 3);
+        assert_eq!(bytes.len(), 39 * BLOCK + 3);
         assert_eq!(text_of(&bytes), SAMPLE);
     }
 
@@ -470,6 +492,8 @@ block 02 00 00
         assert!(error("order tao data\n").contains("kind and a length"));
         assert!(error("order dao data 300\n").contains("`tao` or `sao`"));
         assert!(error("order tao keep keep data 300\n").contains("twice"));
+        assert!(error("order tao immed immed data 300\n").contains("`immed` stands twice"));
+        assert!(error("good progress 256\n").contains("four hex digits"));
         assert!(error("order tao text 300\n").contains("`text`"));
         assert!(error("order tao data 4294967296\n").contains("4294967296"));
         assert!(error("0 x good\n").contains("repeat count"));

@@ -80,26 +80,29 @@ impl Method {
     }
 }
 
-/// Bit 0 keep appendable, bit 1 buffer underrun protection.
-#[derive(Clone, Copy, PartialEq, Eq, Debug)]
+/// Bit 0 keep appendable, bit 1 buffer underrun protection, bit 2 Immed.
+#[derive(Clone, Copy, Default, PartialEq, Eq, Debug)]
 pub struct Flags {
     pub keep: bool,
     pub protect: bool,
+    /// 35h and 5Bh return at once, and polling follows (document 02, Ask 1).
+    pub immed: bool,
 }
 
 impl Flags {
     pub fn from_byte(byte: u8) -> Option<Flags> {
-        if byte > 3 {
+        if byte > 7 {
             return None;
         }
         Some(Flags {
             keep: byte & 1 != 0,
             protect: byte & 2 != 0,
+            immed: byte & 4 != 0,
         })
     }
 
     pub fn byte(self) -> u8 {
-        u8::from(self.keep) + 2 * u8::from(self.protect)
+        u8::from(self.keep) + 2 * u8::from(self.protect) + 4 * u8::from(self.immed)
     }
 }
 

@@ -35,6 +35,21 @@ pub fn track_reply(fields: TrackFields) -> Reply {
     Reply::good(&data)
 }
 
+/// A good 03h reply: 18 bytes of sense data. With progress it says that a
+/// long write goes on, with none that there is nothing to tell.
+pub fn progress_reply(progress: u16) -> Reply {
+    let mut data = [0; 18];
+    data[0] = 0x70;
+    data[7] = 10;
+    if progress > 0 {
+        data[2] = 0x02;
+        data[12..14].copy_from_slice(&[0x04, 0x08]);
+        data[15] = 0x80;
+        data[16..].copy_from_slice(&progress.to_be_bytes());
+    }
+    Reply::good(&data)
+}
+
 /// A failed reply with 18 bytes of sense data.
 pub fn sense_reply(code: u8, key: u8, asc: u8, ascq: u8) -> Reply {
     let mut data = [0; 18];

@@ -1,14 +1,14 @@
 //! Demand 3 of the order for work, watched from outside over random jobs: the
 //! recorded blocks are a beginning of the ordered ones, no address takes two
-//! blocks, done means recorded and closed, and the count is that of document
-//! 01.
+//! blocks, done means recorded and closed, every polling ended, and the count
+//! without polls is that of document 01.
 
-use second::blocks::{read_order, read_reply, Status, BLOCK};
-use second::commands::{CLOSE_TRACK_SESSION, SYNCHRONIZE_CACHE};
+use second::blocks::{read_order, read_reply, Reply, Status, BLOCK};
+use second::commands::{CLOSE_TRACK_SESSION, REQUEST_SENSE, SYNCHRONIZE_CACHE, TEST_UNIT_READY};
 use second::job::{Answer, Command, Job};
-use second::random;
 use second::rng::Rng;
 use second::units::{Method, Order};
+use second::{corners, random};
 
 /// What the good replies have brought about so far.
 #[derive(Default)]
@@ -20,17 +20,41 @@ struct Watch {
     synchronized: usize,
     tracks_closed: usize,
     sessions_closed: usize,
+    /// Whether a polling goes on, and whether its latest 00h was good.
+    polling: bool,
+    ready: bool,
 }
 
 impl Watch {
-    fn good(&mut self, order: &Order, command: &Command) {
-        let bytes = command.bytes;
-        match (bytes[0], bytes[2]) {
-            (SYNCHRONIZE_CACHE, _) => self.synchronized += 1,
-            (CLOSE_TRACK_SESSION, 1) => self.tracks_closed += 1,
-            (CLOSE_TRACK_SESSION, _) => self.sessions_closed += 1,
+    fn reply(&mut self, order: &Order, command: &Command, reply: &Reply) {
+        let good = reply.status == Status::Good;
+        assert_eq!(self.polling, is_poll(command), "a poll out of place");
+        match command.bytes[0] {
+            TEST_UNIT_READY => self.ready = good,
+            REQUEST_SENSE if good && self.ready && progress(&reply.data) == Some(0) => {
+                self.polling = false;
+            }
+            _ if good => self.good(order, command),
             _ => {}
         }
+    }
+
+    fn good(&mut self, order: &Order, command: &Command) {
+        let bytes = command.bytes;
+        let closing = match (bytes[0], bytes[2]) {
+            (SYNCHRONIZE_CACHE, _) => &mut self.synchronized,
+            (CLOSE_TRACK_SESSION, 1) => &mut self.tracks_closed,
+            (CLOSE_TRACK_SESSION, _) => &mut self.sessions_closed,
+            _ => return self.recorded(order, command),
+        };
+        *closing += 1;
+        self.polling = order.flags.immed;
+        let bit = if bytes[0] == SYNCHRONIZE_CACHE { 2 } else { 1 };
+        assert_eq!(bytes[1], if order.flags.immed { bit } else { 0 });
+    }
+
+    fn recorded(&mut self, order: &Order, command: &Command) {
+        let bytes = command.bytes;
         let Some(blocks) = command.blocks else { return };
         let address = i32::from_be_bytes([bytes[2], bytes[3], bytes[4], bytes[5]]);
         assert!(
@@ -63,8 +87,21 @@ impl Watch {
             }
             Method::Sao => self.synchronized == 1,
         };
-        closed && self.recorded == order.blocks_from(0).0
+        closed && !self.polling && self.recorded == order.blocks_from(0).0
     }
+}
+
+fn is_poll(command: &Command) -> bool {
+    [TEST_UNIT_READY, REQUEST_SENSE].contains(&command.bytes[0])
+}
+
+/// The progress of a good 03h reply's data.
+fn progress(data: &[u8]) -> Option<u32> {
+    let &[flags, high, low] = data.get(15..18)? else {
+        return None;
+    };
+    let valid = u32::from(flags / 128);
+    Some(valid * (256 * u32::from(high) + u32::from(low)))
 }
 
 /// The count of an all-good job.
@@ -87,30 +124,28 @@ fn follow(bytes: &[u8]) -> bool {
         return false;
     };
     let mut watch = Watch::default();
-    let (mut given, mut busy) = (1, 0);
+    let (mut given, mut polls, mut busy) = (1, 0, 0);
     for reply in blocks.map_while(|block| read_reply(block).ok()) {
         let Answer::Command(command) = answer else {
             break;
         };
         assert!(!watch.recorded_and_closed(&order));
-        if reply.status == Status::Good {
-            watch.good(&order, &command);
-        }
+        watch.reply(&order, &command, &reply);
         answer = job.give(&reply);
         if let Answer::Command(next) = answer {
             given += 1;
-            busy += u64::from(reply.status == Status::Failed);
-            assert!(
-                reply.status == Status::Good || next == command,
-                "busy moves on"
-            );
+            polls += u64::from(is_poll(&next));
+            let again = reply.status == Status::Failed && command.bytes[0] != TEST_UNIT_READY;
+            assert!(!again || next == command, "busy moves on");
+            busy += u64::from(again && !is_poll(&command));
         }
         assert_eq!(job.count(), given);
     }
     let done = answer == Answer::Done;
     assert_eq!(done, watch.recorded_and_closed(&order));
+    assert!(order.flags.immed || polls == 0);
     if done {
-        assert_eq!(job.count(), all_good_count(&order) + busy);
+        assert_eq!(job.count() - polls, all_good_count(&order) + busy);
     }
     done
 }
@@ -122,4 +157,14 @@ fn random_jobs_keep_demand_3() {
         .filter(|_| follow(&random::job(&mut rng).bytes))
         .count();
     assert!(done > 300, "{done}");
+}
+
+/// Of the corner jobs, too; those with bad blocks end there.
+#[test]
+fn corner_jobs_keep_demand_3() {
+    let done = corners::corners()
+        .iter()
+        .filter(|corner| follow(&corner.bytes) == corner.ends.starts_with("done"))
+        .count();
+    assert_eq!(done, corners::corners().len());
 }

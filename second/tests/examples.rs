@@ -1,7 +1,8 @@
-//! The jobs in the examples folder print what stands beside them.
+//! The jobs in the examples folder print and show what stands beside them.
 
 use second::print::print;
 use second::text::{blocks_of, text_of};
+use second::watch::watch;
 use std::fs;
 use std::path::{Path, PathBuf};
 
@@ -15,9 +16,9 @@ fn jobs() -> Vec<PathBuf> {
 }
 
 #[test]
-fn examples_print_what_is_expected() {
+fn examples_give_what_is_expected() {
     let jobs = jobs();
-    assert!(jobs.len() >= 6);
+    assert!(jobs.len() >= 8);
     for path in jobs {
         let text = fs::read_to_string(&path).expect("a job");
         let blocks = blocks_of(&text).expect("a valid job");
@@ -25,6 +26,10 @@ fn examples_print_what_is_expected() {
         print(blocks.as_slice(), &mut output).expect("writing to memory");
         let expected = fs::read(path.with_extension("expected")).expect("its output");
         assert!(output == expected, "{}", path.display());
+        let mut shown = Vec::new();
+        watch(blocks.as_slice(), &mut shown).expect("writing to memory");
+        let expected = fs::read(path.with_extension("watch")).expect("its panel");
+        assert!(shown == expected, "{}", path.display());
     }
 }
 

@@ -1,7 +1,7 @@
 //! Compares two programs and stops at the first difference:
 //!
 //! - `compare PROGRAM_A PROGRAM_B DIR` feeds every job file (`*.bin`) in a
-//!   folder to two print programs
+//!   folder to two print programs, or to two watch programs
 //! - `compare --lines PROGRAM_A PROGRAM_B FILE` feeds a file of requests once
 //!   to two layouts tools and compares answer by answer
 //! - `compare --requests PROGRAM FILE` feeds the requests of a file once, in
@@ -146,7 +146,7 @@ fn compare_jobs(a: &str, b: &str, dir: &Path) -> Result<bool, String> {
         }
         if !is_whole(&out_a) {
             describe(dir, file);
-            println!("both outputs lack a last line of done, stop or waiting");
+            println!("both outputs lack a last line that tells the job's end");
             return Ok(false);
         }
     }
@@ -170,12 +170,21 @@ fn job_files(dir: &Path) -> Result<Vec<PathBuf>, String> {
     Ok(files)
 }
 
-/// An output ends with a whole line of done, stop or waiting.
+/// The start of the last line: of `print`, and of `watch`.
+const LAST_LINES: [&str; 6] = [
+    "done ",
+    "stop ",
+    "waiting ",
+    "finished, ",
+    "stopped: ",
+    "waiting, ",
+];
+
+/// An output ends with a whole line that tells the job's end.
 fn is_whole(output: &[u8]) -> bool {
     let output = String::from_utf8_lossy(output);
     let last = output.lines().last().unwrap_or("");
-    let known = ["done ", "stop ", "waiting "];
-    output.ends_with('\n') && known.iter().any(|word| last.starts_with(word))
+    output.ends_with('\n') && LAST_LINES.iter().any(|start| last.starts_with(start))
 }
 
 /// Prints a job's name, its line in the index, and its text.

@@ -53,10 +53,10 @@ flush-requires : tie.Need-flush-requires Inv-loop μ-loop
 flush-requires c κs = omega arith
 
 sub-turns : tie.Need-sub-turns Inv-loop μ-loop
-sub-turns c = omega arith
+sub-turns c = omega (arith, c .before .before .before .before .before .before .before .before .before .before .before .before .before .loop-test)
 
 loop-less : tie.Need-loop-less Inv-loop μ-loop
-loop-less c = omega arith
+loop-less c = omega (arith, c .before .before .before .before .before .before .before .before .before .before .before .before .before .loop-test)
 
 loop-again : tie.Need-loop-again Inv-loop μ-loop
 loop-again c =
