@@ -6,10 +6,27 @@ use Rattle.mmc.specs.Times.{inRange, framesTo, addressAt}
 use Rattle.mmc.specs.Commands.{writeRange, writeBytes, writeCommand, sendCueSheet, closeTrackSession}
 use Rattle.mmc.specs.Sheet.{sheetSize}
 use Rattle.mmc.proofs.Bench as Layouts
-use Rattle.recorder.specs.Replies.{hasSense, senseOf, longWrite, isBusy, readFailed, wholeProfile, readProfile, wholeDisc, readStatus, wholeInformation, informationOf, readInformation}
+use Rattle.recorder.specs.Replies.{hasSense, senseOf, longWrite, isBusy, readFailed, notReady, isUnready, readUnready, progressOf, readProgress, wholeProfile, readProfile, wholeDisc, readStatus, wholeInformation, informationOf, readInformation}
 use Rattle.recorder.specs.Rules.{otherProfile, unsuitable, unusable, mixedOrKept, fits}
 use Rattle.recorder.specs.Job.{inOrder, inTime, inPiece, isWrite, standsIn}
-use Rattle.recorder.specs.Bench.{BenchSheets}
+use Rattle.recorder.specs.Bench.{PollSheets, BenchSheets}
+
+poll-sheets : PollSheets
+unfolding sheetSize sendCueSheet closeTrackSession framesTo bytes32 be32 allKind allLong blocksOf inRange addressAt writeRange writeBytes writeCommand hasSense senseOf longWrite isBusy readFailed notReady isUnready readUnready progressOf readProgress wholeProfile readProfile wholeDisc readStatus wholeInformation informationOf readInformation otherProfile unsuitable unusable mixedOrKept fits inOrder inTime inPiece isWrite standsIn
+poll-sheets =
+    record {
+      commands = refl;
+      any-qualifier = refl;
+      not-unready = refl;
+      rounds = refl;
+      without-bit = refl;
+      busy-sense = refl;
+      each-round = refl;
+      sense-fails = refl;
+      sense-short = refl;
+      latest = refl;
+      forged = refl;
+    }
 
 pub bench-sheets : BenchSheets
 unfolding sheetSize sendCueSheet closeTrackSession framesTo bytes32 be32 allKind allLong blocksOf inRange addressAt writeRange writeBytes writeCommand hasSense senseOf longWrite isBusy readFailed wholeProfile readProfile wholeDisc readStatus wholeInformation informationOf readInformation otherProfile unsuitable unusable mixedOrKept fits inOrder inTime inPiece isWrite standsIn
@@ -29,6 +46,7 @@ bench-sheets =
       two-count = refl;
       write = refl;
       commands = refl;
+      polling = poll-sheets;
       finalized = refl;
       appendable = refl;
       other-profile = refl;

@@ -1,9 +1,9 @@
--- Document 01's "Sheets from the bench", those of the layouts taken in, as one statement about the definitions.
+-- Document 01's "Sheets from the bench", those of the layouts taken in, and cases of document 02, as one statement about the definitions.
 use mathlib.Core.Path.{_≡_}
 use mathlib.Core.Bool.{Bool, true, false}
 use mathlib.Core.List.{List, [], _∷_, _++_}
 use Prim.Native.Nat.{ℕ, _-_}
-use lib.ListN.{length, take, drop, replicate}
+use lib.ListN.{length, getD, take, drop, replicate}
 use Rattle.mmc.specs.Bench as Layouts
 use Rattle.mmc.specs.Bytes.{bytes32}
 use Rattle.mmc.specs.Refusals.{pass}
@@ -17,12 +17,13 @@ use Rattle.mmc.specs.declared.order.Method.{Method}
 use Rattle.mmc.specs.declared.order.Method.the-variants.{Tao, Sao}
 use Rattle.recorder.specs.Answers.{drive-failed, number, bytesOf}
 use Rattle.recorder.specs.declared.script.Op.{Op}
-use Rattle.recorder.specs.declared.script.Op.the-variants.{ModeSelect, SendCueSheet}
+use Rattle.recorder.specs.declared.script.Op.the-variants.{ModeSelect, SendCueSheet, CloseSession, TestUnitReady, RequestSense}
 use Rattle.recorder.specs.Script.{script, write as writing}
 use Rattle.recorder.specs.Replies.{noSense}
+use Rattle.recorder.specs.Exchanges.{Exchange, progress}
 use Rattle.recorder.specs.Rules.{Found, none, found, refusal, ruled, play}
 use Rattle.recorder.specs.declared.job.Poll.{Poll}
-use Rattle.recorder.specs.declared.job.Poll.the-variants.{Off}
+use Rattle.recorder.specs.declared.job.Poll.the-variants.{Off, Ready, Sense}
 use Rattle.recorder.specs.Job.{stands}
 
 abbrev pub track : Kind → ℕ → Track
@@ -88,9 +89,101 @@ cut n y = replyOf true (take n (y .bytes))
 abbrev pub changed : ℕ → (Reply → Reply) → ℕ
 changed k g = after k (order Tao (300 ∷ [])) (plain 0 0 300) (g (plain 0 0 300))
 
--- whether a state at an operation, with the next block at a frame, passes the recorder's own test
+-- whether a state at an operation and its polling, with the next block at a frame, passes the recorder's own test
+abbrev pub passesAt : Order → Op → Poll → ℕ → Bool
+passesAt o x p at = stands o (record { place = x; poll = p; seen = record { profile = 9; status = 0; at = record { 0 = at }; ready = false; progress = 0 } })
+
 abbrev pub passes : Order → Op → ℕ → Bool
-passes o x at = stands o (record { place = x; poll = Off; seen = record { profile = 9; status = 0; at = record { 0 = at }; ready = false; progress = 0 } })
+passes o x at = passesAt o x Off at
+
+-- ---- document 02: with flag bit 2
+
+abbrev pub immediate : Order → Order
+immediate o = record { method = o .method; keep = o .keep; protect = o .protect; immed = true; count = o .count; tracks = o .tracks }
+
+-- the exchanges of a track at once of 300 blocks whose 35h is answered good, and then these replies
+abbrev pub closing : List Reply → List Exchange
+closing ys = play (pass (immediate (order Tao (300 ∷ [])))) [] (replicate 24 (plain 0 0 300) ++ ys)
+
+-- the first byte of the command that is given then, and the first refusal; 0 if there is none
+abbrev pub due : List Reply → ℕ
+due ys = getD (bytesOf true 1 (ruled (pass (immediate (order Tao (300 ∷ [])))) (closing ys))) 0 0xFF
+
+abbrev pub stopped : List Reply → ℕ
+stopped ys = numberIn (refusal (pass (immediate (order Tao (300 ∷ [])))) (closing ys))
+
+-- a good reply without data; one of so many bytes of sense data whose bytes 15 to 17 are these; failed sense data 02h/04h
+abbrev pub good : Reply
+good = replyOf true []
+
+abbrev pub sense : ℕ → ℕ → ℕ → ℕ → Reply
+sense n fifteen sixteen seventeen = replyOf true (take n (replicate 15 0 ++ (fifteen ∷ sixteen ∷ seventeen ∷ [])))
+
+abbrev pub unready : ℕ → ℕ → Reply
+unready code ascq = failed 14 code 0x02 0x04 ascq
+
+pub record PollSheets : Type 0 where
+  -- Immed in 35h and in both 5Bh; 00h and 03h after 35h; six more commands: "done comes after the last polling"
+  pub commands :
+      bytesAfter 23 (immediate (order Tao (300 ∷ []))) (plain 0 0 300)
+      ∷ bytesAfter 24 (immediate (order Tao (300 ∷ []))) (plain 0 0 300)
+      ∷ bytesAfter 25 (immediate (order Tao (300 ∷ []))) (plain 0 0 300)
+      ∷ bytesAfter 26 (immediate (order Tao (300 ∷ []))) (plain 0 0 300)
+      ∷ bytesAfter 29 (immediate (order Tao (300 ∷ []))) (plain 0 0 300)
+      ∷ bytesAfter 31 (immediate (order Tao (300 ∷ []))) (plain 0 0 300)
+      ∷ bytesAfter 32 (immediate (order Tao (300 ∷ []))) (plain 0 0 300)
+      ∷ []
+      ≡ (0x35 ∷ 0x02 ∷ 0 ∷ 0 ∷ 0 ∷ 0 ∷ 0 ∷ 0 ∷ 0 ∷ 0 ∷ [])
+      ∷ (0x00 ∷ 0 ∷ 0 ∷ 0 ∷ 0 ∷ 0 ∷ [])
+      ∷ (0x03 ∷ 0 ∷ 0 ∷ 0 ∷ 0x12 ∷ 0 ∷ [])
+      ∷ (0x5B ∷ 0x01 ∷ 1 ∷ 0 ∷ 0 ∷ 0xFF ∷ 0 ∷ 0 ∷ 0 ∷ 0 ∷ [])
+      ∷ (0x5B ∷ 0x01 ∷ 2 ∷ 0 ∷ 0 ∷ 0 ∷ 0 ∷ 0 ∷ 0 ∷ 0 ∷ [])
+      ∷ (0x03 ∷ 0 ∷ 0 ∷ 0 ∷ 0x12 ∷ 0 ∷ [])
+      ∷ []
+      ∷ []
+  -- "fails with code 70h and 02h/04h, any ASCQ": the 03h follows, for 08h too, and by F0h
+  pub any-qualifier : due (unready 0x70 0x00 ∷ []) ∷ due (unready 0x70 0x08 ∷ []) ∷ due (unready 0x70 0xFF ∷ []) ∷ due (unready 0xF0 0x07 ∷ []) ∷ [] ≡ replicate 4 0x03
+  -- not by 71h, another code, another key or additional sense code, nor with 13 bytes: 12
+  pub not-unready :
+      stopped (unready 0x71 0x08 ∷ [])
+      ∷ stopped (unready 0x72 0x08 ∷ [])
+      ∷ stopped (failed 14 0x70 0x03 0x04 0x08 ∷ [])
+      ∷ stopped (failed 14 0x70 0x02 0x05 0x08 ∷ [])
+      ∷ stopped (failed 13 0x70 0x02 0x04 0x08 ∷ [])
+      ∷ []
+      ≡ replicate 5 12
+  -- ready and no progress: onward; not ready and no progress, ready and progress: one more round
+  pub rounds : due (good ∷ sense 18 0 0 0 ∷ []) ∷ due (unready 0x70 0x04 ∷ sense 18 0 0 0 ∷ []) ∷ due (good ∷ sense 18 0x80 0 1 ∷ []) ∷ due (good ∷ sense 18 0x80 1 0 ∷ []) ∷ [] ≡ 0x5B ∷ 0x00 ∷ 0x00 ∷ 0x00 ∷ []
+  -- progress counts with bit 7 of byte 15 alone
+  pub without-bit : due (good ∷ sense 18 0x7F 1 1 ∷ []) ∷ due (good ∷ sense 18 0xFF 0 0 ∷ []) ∷ [] ≡ 0x5B ∷ 0x5B ∷ []
+  -- a busy 03h goes again alone, "and what the 00h before it said still counts"
+  pub busy-sense :
+      due (good ∷ unready 0x70 0x08 ∷ [])
+      ∷ due (good ∷ unready 0x70 0x08 ∷ unready 0xF0 0x08 ∷ sense 18 0 0 0 ∷ [])
+      ∷ due (unready 0x70 0x01 ∷ unready 0x70 0x08 ∷ sense 18 0 0 0 ∷ [])
+      ∷ []
+      ≡ 0x03 ∷ 0x5B ∷ 0x00 ∷ []
+  -- what the 00h of an earlier round said does not
+  pub each-round : due (good ∷ sense 18 0x80 1 0 ∷ unready 0x70 0x04 ∷ sense 18 0 0 0 ∷ []) ≡ 0x00
+  -- 03h: any other failure is 12, and under 18 bytes 4
+  pub sense-fails : stopped (good ∷ unready 0x70 0x07 ∷ []) ∷ stopped (good ∷ unready 0x71 0x08 ∷ []) ∷ [] ≡ 12 ∷ 12 ∷ []
+  pub sense-short : stopped (good ∷ sense 17 0 0 0 ∷ []) ∷ stopped (good ∷ sense 18 0 0 0 ∷ []) ∷ [] ≡ 4 ∷ 0 ∷ []
+  -- the latest progress, high byte first, kept over the next 00h and a busy 03h
+  pub latest :
+      progress (closing (good ∷ []))
+      ∷ progress (closing (good ∷ sense 18 0x80 0x12 0x34 ∷ []))
+      ∷ progress (closing (good ∷ sense 18 0x80 0x12 0x34 ∷ unready 0x70 0x04 ∷ unready 0x70 0x08 ∷ []))
+      ∷ []
+      ≡ 0 ∷ 0x1234 ∷ 0x1234 ∷ []
+  -- no forged state polls without the flag, or what is not polled; no poll is a place
+  pub forged :
+      passesAt (order Tao (300 ∷ [])) CloseSession Ready 0
+      ∷ passesAt (immediate (order Tao (300 ∷ []))) (ModeSelect (record { 0 = 1 })) Sense 0
+      ∷ passes (immediate (order Tao (300 ∷ []))) TestUnitReady 0
+      ∷ passes (immediate (order Tao (300 ∷ []))) RequestSense 0
+      ∷ passesAt (immediate (order Tao (300 ∷ []))) CloseSession Sense 0
+      ∷ []
+      ≡ false ∷ false ∷ false ∷ false ∷ true ∷ []
 
 pub record BenchSheets : Type 0 where
   -- those of the byte layouts
@@ -127,6 +220,8 @@ pub record BenchSheets : Type 0 where
       ∷ (0x5B ∷ 0 ∷ 2 ∷ 0 ∷ 0 ∷ 0 ∷ 0 ∷ 0 ∷ 0 ∷ 0 ∷ [])
       ∷ (0x5D ∷ 0 ∷ 0 ∷ 0 ∷ 0 ∷ 0 ∷ 0 ∷ 0 ∷ 32 ∷ 0 ∷ [])
       ∷ []
+  -- document 02's polling
+  pub polling : PollSheets
   -- finalized disc and a 299-block track: 6
   pub finalized : opened (order Tao (299 ∷ [])) (plain 2 0 299) ≡ 6
   -- a session at once on an appendable disc: 6
@@ -143,8 +238,8 @@ pub record BenchSheets : Type 0 where
   pub kept : opened (orderOf Sao true (audio (300 ∷ []))) (plain 0 0 300) ≡ 8
   -- neither is refused in a track at once
   pub tao-free : opened (orderOf Tao true (track Audio 300 ∷ track Data 300 ∷ [])) (plain 0 0 600) ≡ 0
-  -- a reply to 51h of another type: 4
-  pub other-type : opened (order Tao (300 ∷ [])) (plain 32 0 300) ≡ 4
+  -- a reply to 51h of another type, by any of the three bits: 4
+  pub other-type : opened (order Tao (300 ∷ [])) (plain 0x20 0 300) ∷ opened (order Tao (300 ∷ [])) (plain 0x40 0 300) ∷ opened (order Tao (300 ∷ [])) (plain 0x80 0 300) ∷ [] ≡ 4 ∷ 4 ∷ 4 ∷ []
   -- busy by the codes 70h and F0h; not by the deferred code 71h, nor with 13 bytes
   pub busy : failing 0x70 14 ≡ 0
   pub busy-valid : failing 0xF0 14 ≡ 0
