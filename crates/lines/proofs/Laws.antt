@@ -13,7 +13,7 @@ use Rattle.mmc.specs.declared.refusals.Made.{Made}
 use Rattle.recorder.specs.Answers.{bytesIn}
 use Rattle.recorder.specs.declared.answers.Cdb.{Cdb}
 use Rattle.lines.specs.Text.{Adds}
-use Rattle.lines.specs.Lines.{longest, Writes}
+use Rattle.lines.specs.Lines.{Writes}
 
 -- a part from the start on
 pub from-start : (k : ℕ) (s : List ℕ) → take (k - 0) (drop 0 s) ≡ take k s
@@ -51,10 +51,18 @@ then {s} {t} {x} {y} {z} {a} {b} {c} p q =
       text = q .text ∙ ap (λ (l : List ℕ). l ++ t) (p .text) ∙ append-assoc (take a x) s t;
     }
 
--- a line that was written from the start of a buffer of 64 bytes on is what goes into the lent one
-pub written : {s d l before after : List ℕ} {e : ℕ} {r : Made} → Adds s 0 d e l → e ≤ longest → Fills (pass (take (e - 0) (drop 0 l))) r before after → Writes s r before after
+-- a text that was written from the start of a buffer on is the part up to its end
+pub stood : {s d l : List ℕ} {e : ℕ} → Adds s 0 d e l → take (e - 0) (drop 0 l) ≡ s
+stood {l = l} {e = e} p = from-start e l ∙ p .text
+
+-- a line that was written from the start of a buffer on is what goes into the lent one
+pub written : {s d l before after : List ℕ} {e m : ℕ} {r : Made} → Adds s 0 d e l → e ≤ m → Fills (pass (take (e - 0) (drop 0 l))) r before after → Writes m s r before after
 written {s = s} {l = l} {before = before} {after = after} {e = e} {r = r} p h f =
     record {
-      filled = rw (sym (p .text), ← from-start e l) f;
+      filled = rw (← stood p) f;
       short = omega (arith, p .ends);
     }
+
+-- a line that is no longer than so many bytes is no longer than more of them
+pub within : {s before after : List ℕ} {m n : ℕ} {r : Made} → Writes m s r before after → m ≤ n → Writes n s r before after
+within w h = record { filled = w .filled; short = omega arith }

@@ -13,9 +13,9 @@ use Rattle.lines.specs.Text.{codes, parted, decimal}
 unfoldable pub commandLine : List ℕ → List ℕ
 commandLine bytes = parted bytes ++ codes "\n"
 
--- a word and the count of commands, N
+-- some words and the count of commands, N
 unfoldable pub countedLine : List ℕ → ℕ → List ℕ
-countedLine word n = word ++ decimal n ++ codes "\n"
+countedLine words n = words ++ decimal n ++ codes "\n"
 
 -- "the last line is `done N`, `stop R N`, or `waiting N` where replies run out"
 unfoldable pub doneLine : ℕ → List ℕ
@@ -46,6 +46,6 @@ abbrev pub longest : ℕ
 longest = 64
 
 -- what the makers promise: of a line, the answer, and the lent buffer before and after; 11 where it is too short, and how long a line can be
-pub record Writes (line : List ℕ) (r : Made) (before after : List ℕ) : Type 0 where
+pub record Writes (most : ℕ) (line : List ℕ) (r : Made) (before after : List ℕ) : Type 0 where
   pub filled : Fills (pass line) r before after
-  pub short : length line ≤ longest
+  pub short : length line ≤ most

@@ -1,13 +1,15 @@
-// The lines that the print program writes: each answer of the recorder as a line of text, put whole into a lent buffer.
+// The lines that the programs write, each put whole into a lent buffer. Here are those of the print program: each answer of the recorder
+// as a line of text.
+pub mod shown;
 mod text;
 
 ghost use mathlib.Core.Path.{_≡_};
-ghost use Prim.Native.Nat.{_≤_, min};
+ghost use Prim.Native.Nat.{_+_, _≤_, min};
 ghost use lib.ListN.{length};
 ghost use Rattle.mmc.specs.Refusals.{numberOf};
 ghost use Rattle.recorder.specs.Answers.{said};
 ghost use Rattle.lines.specs.Text.{Adds};
-ghost use Rattle.lines.specs.Lines.{commandLine, countedLine, waitingLine, stopText, stopLine, failedLine, lineOf, Writes};
+ghost use Rattle.lines.specs.Lines.{commandLine, countedLine, waitingLine, stopText, stopLine, failedLine, lineOf, longest, Writes};
 ghost use Rattle.lines.specs.Bench.{ExampleLines};
 use crate::text::add;
 use crate::text::add_decimal;
@@ -23,7 +25,7 @@ use recorder::replies::Sense;
 // A command's bytes.
 fn command_line(bytes: &[u8], out: &mut [u8]) -> Made
     requires { ⌜ length (now bytes) ≤ 12 ⌝ }
-    ensures { λ r. ⌜ Writes (commandLine (now (bytes .entry))) r (now (out .entry)) (now (out .exit)) ⌝ }
+    ensures { λ r. ⌜ Writes longest (commandLine (now (bytes .entry))) r (now (out .entry)) (now (out .exit)) ⌝ }
 {
     let mut line = [0u8; 64];
     let a = add_hex(&mut line, 0, bytes);
@@ -31,13 +33,13 @@ fn command_line(bytes: &[u8], out: &mut [u8]) -> Made
     fill(&line[0..end], out)
 }
 
-// A word and the count.
-fn counted_line(word: &[u8], count: u64, out: &mut [u8]) -> Made
-    requires { ⌜ length (now word) ≤ 8 ⌝ }
-    ensures { λ r. ⌜ Writes (countedLine (now (word .entry)) count) r (now (out .entry)) (now (out .exit)) ⌝ }
+// Some words and the count.
+pub(crate) fn counted_line(words: &[u8], count: u64, out: &mut [u8]) -> Made
+    requires { ⌜ length (now words) ≤ 107 ⌝ }
+    ensures { λ r. ⌜ Writes (length (now (words .entry)) + 21) (countedLine (now (words .entry)) count) r (now (out .entry)) (now (out .exit)) ⌝ }
 {
-    let mut line = [0u8; 64];
-    let a = add(&mut line, 0, word);
+    let mut line = [0u8; 128];
+    let a = add(&mut line, 0, words);
     let b = add_decimal(&mut line, a, count);
     let end = add(&mut line, b, b"\n");
     fill(&line[0..end], out)
@@ -45,7 +47,7 @@ fn counted_line(word: &[u8], count: u64, out: &mut [u8]) -> Made
 
 // `waiting N`, where replies run out. Its contract also keeps the example lines, which hold of the definitions that the makers meet.
 pub fn waiting_line(count: u64, out: &mut [u8]) -> Made
-    ensures { λ r. ⌜ (Writes (waitingLine count) r (now (out .entry)) (now (out .exit))) × ExampleLines ⌝ }
+    ensures { λ r. ⌜ (Writes longest (waitingLine count) r (now (out .entry)) (now (out .exit))) × ExampleLines ⌝ }
 {
     counted_line(b"waiting ", count, out)
 }
@@ -63,7 +65,7 @@ fn add_stop(line: &mut [u8], number: u8, count: u64) -> usize
 
 // `stop R N`, by the refusal.
 pub fn stop_line(refusal: Refusal, count: u64, out: &mut [u8]) -> Made
-    ensures { λ r. ⌜ Writes (stopLine (numberOf refusal) count) r (now (out .entry)) (now (out .exit)) ⌝ }
+    ensures { λ r. ⌜ Writes longest (stopLine (numberOf refusal) count) r (now (out .entry)) (now (out .exit)) ⌝ }
 {
     let mut line = [0u8; 64];
     let a = add_stop(&mut line, number(refusal), count);
@@ -73,7 +75,7 @@ pub fn stop_line(refusal: Refusal, count: u64, out: &mut [u8]) -> Made
 
 // `stop 12 N KK AA QQ`, the triple in hex.
 fn failed_line(sense: Sense, count: u64, out: &mut [u8]) -> Made
-    ensures { λ r. ⌜ Writes (failedLine sense count) r (now (out .entry)) (now (out .exit)) ⌝ }
+    ensures { λ r. ⌜ Writes longest (failedLine sense count) r (now (out .entry)) (now (out .exit)) ⌝ }
 {
     let triple = [sense.key, sense.asc, sense.ascq];
     let mut line = [0u8; 64];
@@ -94,7 +96,7 @@ fn used(cdb: Cdb) -> usize
 
 // The line of an answer: the command's bytes, or the end with the count of commands.
 pub fn answer_line(answer: Answer, cdb: Cdb, count: u64, out: &mut [u8]) -> Made
-    ensures { λ r. ⌜ Writes (lineOf (said answer) cdb count) r (now (out .entry)) (now (out .exit)) ⌝ }
+    ensures { λ r. ⌜ Writes longest (lineOf (said answer) cdb count) r (now (out .entry)) (now (out .exit)) ⌝ }
 {
     let bytes = cdb.bytes;
     let end = used(cdb);

@@ -37,7 +37,7 @@ pub(crate) fn portion_of(length: u32, first: u32) -> u32
 }
 
 // The track of an operation, 0 where it has none.
-pub(crate) fn track_of(op: Op) -> u16
+pub fn track_of(op: Op) -> u16
     ensures { λ r. ⌜ r ≡ trackIn op ⌝ }
 {
     match op {

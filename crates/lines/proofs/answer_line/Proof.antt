@@ -6,7 +6,7 @@ use lib.ListN.{length, take, drop}
 use Rattle.recorder.specs.Answers.{bytesIn}
 use Rattle.lines.specs.Text.{codes}
 use Rattle.lines.specs.Lines.{doneLine}
-use Rattle.lines.proofs.Laws.{used-bytes}
+use Rattle.lines.proofs.Laws.{used-bytes, within}
 use Rattle.lines.proofs.answer_line.Statement.{statement}
 use Rattle.lines.proofs.answer_line.Tie as tie
 
@@ -28,7 +28,7 @@ returns c =
 
 returns-2 : tie.Need-returns-2
 unfolding codes doneLine
-returns-2 c = rw (c .before .before .before .before .before .enum-told2 .given .1) (c .before .before .counted-line .ensures)
+returns-2 c = rw (c .before .before .before .before .before .enum-told2 .given .1) (within (c .before .before .counted-line .ensures) (omega arith))
 
 returns-3 : tie.Need-returns-3
 returns-3 c = rw (c .before .before .before .before .before .answer .given .1) (c .before .before .stop-line .ensures)

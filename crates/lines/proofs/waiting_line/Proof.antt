@@ -1,7 +1,9 @@
 use borrow.Author.Needs.{needs}
+use native.Mathlib.Omega.{arith}
 use Rattle.lines.specs.Text.{codes}
 use Rattle.lines.specs.Lines.{waitingLine}
 use Rattle.lines.proofs.Bench.{example-lines}
+use Rattle.lines.proofs.Laws.{within}
 use Rattle.lines.proofs.waiting_line.Statement.{statement}
 use Rattle.lines.proofs.waiting_line.Tie as tie
 
@@ -16,7 +18,7 @@ same-length c = search needs
 
 returns : tie.Need-returns
 unfolding codes waitingLine
-returns c = (c .before .before .counted-line .ensures, example-lines)
+returns c = (within (c .before .before .counted-line .ensures) (omega arith), example-lines)
 
 pub waiting-line-spec : {M : Type 1} → statement M
 waiting-line-spec =
