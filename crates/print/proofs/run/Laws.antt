@@ -19,7 +19,7 @@ use Rattle.mmc.specs.declared.refusals.Made.{Made}
 use Rattle.mmc.specs.declared.refusals.Made.the-variants as M
 use Rattle.recorder.specs.Job.{Next, takeOf}
 use Rattle.recorder.specs.declared.job.Recorder.{Recorder}
-use Rattle.lines.specs.Lines.{Writes}
+use Rattle.lines.specs.Lines.{longest, Writes}
 use Rattle.print.specs.Run.{writtenBy, Stage, answeredOf, repliedTo, cut, blocksOf, fed, begunWith, waitingFor, ending, printed, awaiting, readOn, following, Brings, stageIn, roomFor, Reaches, Reads, Begins, GoesOn}
 use Rattle.print.specs.declared.run.Run.{Run}
 
@@ -30,19 +30,19 @@ counted n (M.Bytes k) e = cc
 counted n (M.Refused x) e = let z : _≡_ {A = ℕ} 0 1 = cc in absurd (omega arith)
 
 -- a line goes whole into a buffer of 64 bytes
-pub wrote : {line before after : List ℕ} (r : Made) → Writes line r before after → 64 ≤ length before → (writtenBy r ≡ length line) × (after ≡ line ++ drop (length line) before)
+pub wrote : {line before after : List ℕ} (r : Made) → Writes longest line r before after → 64 ≤ length before → (writtenBy r ≡ length line) × (after ≡ line ++ drop (length line) before)
 unfolding answerOf bufferOf
 wrote {line} {before} {after} r w h =
     let l = le-leb (length line) (length before) (omega (arith, w .short)) in
     (counted (length line) r (w .filled .answer ∙ simp l), w .filled .buffer ∙ simp l)
 
 -- a line goes into the part of a buffer behind the text
-pub goes-in : (text : List ℕ) (u : ℕ) {part line : List ℕ} (r : Made) → u + 64 ≤ length text → Writes line r (take (length text - u) (drop u text)) part → (writtenBy r ≡ length line) × (part ≡ line ++ drop (length line) (take (length text - u) (drop u text)))
+pub goes-in : (text : List ℕ) (u : ℕ) {part line : List ℕ} (r : Made) → u + 64 ≤ length text → Writes longest line r (take (length text - u) (drop u text)) part → (writtenBy r ≡ length line) × (part ≡ line ++ drop (length line) (take (length text - u) (drop u text)))
 goes-in text u r h w =
     let k = length-take-le (length text - u) (drop u text) (omega (arith, length-drop u text)) in
     wrote r w (omega arith)
 
-pub added : (text : List ℕ) (u : ℕ) {part line : List ℕ} (r : Made) (more : List ℕ) → u + 64 ≤ length text → Writes line r (take (length text - u) (drop u text)) part → take (u + writtenBy r) (take u text ++ (part ++ more)) ≡ take u text ++ line
+pub added : (text : List ℕ) (u : ℕ) {part line : List ℕ} (r : Made) (more : List ℕ) → u + 64 ≤ length text → Writes longest line r (take (length text - u) (drop u text)) part → take (u + writtenBy r) (take u text ++ (part ++ more)) ≡ take u text ++ line
 added text u {part} {line} r more h w =
     let e = goes-in text u r h w in
     let rest = drop (length line) (take (length text - u) (drop u text)) in
