@@ -33,22 +33,27 @@ fn put_line(terminal: bool, last: bool, line: &[u8]) {
     }
 }
 
+// Whether a line is the last: no reply is awaited.
+fn is_last(w: Watch) -> bool {
+    !w.waiting
+}
+
 // Shows the line. The buffer is named for the contract alone: the bytes are the line's.
-fn send(terminal: bool, w: Watch, text: &[u8], line: &[u8]) -> Watch
+fn send(terminal: bool, last: bool, w: Watch, text: &[u8], line: &[u8]) -> Watch
     requires { ⌜ now line ≡ stageIn w (now text) .line ⌝ }
     ensures { λ r. ⌜ r ≡ w ⌝ }
 {
-    put_line(terminal, !w.waiting, line);
+    put_line(terminal, last, line);
     w
 }
 
 // Shows the line of where the program stands.
-fn flush(terminal: bool, w: Watch, text: &[u8]) -> Watch
+fn flush(terminal: bool, last: bool, w: Watch, text: &[u8]) -> Watch
     requires { ⌜ w .used ≤ length (now text) ⌝ }
     ensures { λ r. ⌜ r ≡ w ⌝ }
 {
     let used = w.used;
-    send(terminal, w, text, &text[0..used])
+    send(terminal, last, w, text, &text[0..used])
 }
 
 // Reads on until no reply is awaited. A proved loop has to end, so it counts its turns down from a number that no run uses up.
@@ -62,7 +67,7 @@ fn finish(terminal: bool, first: Watch, block: &mut [u8], text: &mut [u8]) -> Wa
         let n = io::read_full(STDIN_FILENO, block);
         let held = w.recorder;
         let next = go_on(held, &block[0..n], text);
-        w = flush(terminal, next, text);
+        w = flush(terminal, is_last(next), next, text);
         turns = turns - 1;
     }
     w
@@ -73,9 +78,9 @@ fn main() {
     let mut block = [0u8; 512];
     let mut text = [0u8; 128];
     let before = show(idle(), &mut text);
-    flush(terminal, before, &text);
+    flush(terminal, false, before, &text);
     let n = io::read_full(STDIN_FILENO, &mut block);
     let begun = begin(&block[0..n], &mut text);
-    let first = flush(terminal, begun, &text);
+    let first = flush(terminal, is_last(begun), begun, &text);
     finish(terminal, first, &mut block, &mut text);
 }

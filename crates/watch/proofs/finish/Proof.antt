@@ -42,14 +42,14 @@ flush-requires : tie.Need-flush-requires Inv-loop μ-loop
 flush-requires c κs = omega arith
 
 sub-turns : tie.Need-sub-turns Inv-loop μ-loop
-sub-turns c = omega (arith, c .before .before .before .before .before .before .before .before .before .before .before .before .before .before .loop-test)
+sub-turns c = omega (arith, c .before .before .before .before .before .before .before .before .before .before .before .before .before .before .before .loop-test)
 
 loop-less : tie.Need-loop-less Inv-loop μ-loop
-loop-less c = omega (arith, c .before .before .before .before .before .before .before .before .before .before .before .before .before .before .loop-test)
+loop-less c = omega (arith, c .before .before .before .before .before .before .before .before .before .before .before .before .before .before .before .loop-test)
 
 loop-again : tie.Need-loop-again Inv-loop μ-loop
 loop-again c =
-    let g = c .before .before .before .before in
+    let g = c .before .before .before .before .before in
     let b = g .before .before .before .before .before .before .before in
     let t = b .before .before in
     let l = t .before .before in
@@ -98,6 +98,7 @@ finish-spec =
     part-go-on-start
     part-go-on-end
     go-on-requires
+    (λ c κs. tt)
     flush-requires
     sub-turns
     loop-less
