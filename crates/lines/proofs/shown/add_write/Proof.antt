@@ -1,7 +1,7 @@
 use borrow.Author.Needs.{needs}
 use native.Mathlib.Omega.{arith}
 use Rattle.lines.specs.Text.{codes}
-use Rattle.lines.specs.Shown.{howFar}
+use Rattle.lines.specs.Shown.{pair, howFar}
 use Rattle.lines.proofs.Laws.{then}
 use Rattle.lines.proofs.shown.add_write.Statement.{statement}
 use Rattle.lines.proofs.shown.add_write.Tie as tie
@@ -12,7 +12,8 @@ returns c =
     let w = c .before .before in
     let p = w .before .before .before .before .before in
     let v = p .before .before .before .before .before .before in
-    (then (v .add-piece .ensures .0) (then (p .add-pair .ensures .0) (w .add .ensures)), omega (arith, w .add .ensures .ends, p .add-pair .ensures .1, v .add-piece .ensures .1))
+    let a = v .before .before .before .args in
+    (then (v .add-piece .ensures .0) (then {s = pair (codes ", ") (a .first) (codes " of ") (a .blocks)} (p .add-pair .ensures .0) (w .add .ensures)), omega (arith, w .add .ensures .ends, p .add-pair .ensures .1, v .add-piece .ensures .1))
 
 pub add-write-spec : {M : Type 1} → statement M
 add-write-spec =
