@@ -1,5 +1,5 @@
 -- The bench's sheets, computed from the definitions.
-use mathlib.Core.Path.{_≡_, refl}
+use mathlib.Core.Path.{refl}
 use Rattle.mmc.specs.Bytes.{bytes32, be32, sumOf, allZero}
 use Rattle.mmc.specs.Block.{checkSum, sealed, blockFault, blockRead}
 use Rattle.mmc.specs.Order.{allNone, validOrder, allKind, allLong, blocksOf}

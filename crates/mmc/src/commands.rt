@@ -2,7 +2,7 @@
 // drive answer before its work is done.
 ghost use mathlib.Core.Path.{_≡_};
 ghost use mathlib.Core.Bool.{true};
-ghost use Prim.Native.Nat.{_≤_, _<_};
+ghost use Prim.Native.Nat.{_<_};
 ghost use Rattle.mmc.specs.Times.{inRange};
 ghost use Rattle.mmc.specs.Commands.{getConfiguration, readDiscInformation, readTrackInformation, modeSelect, sendCueSheet, twos, writeRange, writeBytes, writeCommand, synchronizeCache, closeTrackSession, testUnitReady, requestSense};
 ghost use Rattle.mmc.specs.Refusals.{pass, Fills};

@@ -23,8 +23,8 @@ use Rattle.recorder.specs.Answers.{Why, because, Ruling, issue, done, st
 use Rattle.recorder.specs.Script.{isPoll, stepwise, expected, Block}
 use Rattle.recorder.specs.Exchanges.{Exchange, recorded, occupied, polling, progress, seen, named}
 use Rattle.recorder.specs.Rules.{left, none, found, refusal, ruled, exchanged, play, orderedIn, AllClosed}
-use Rattle.recorder.specs.Job.{Next, nextIn, dueAt, commandOf, mostCommands, latestProgress, unchanged, restsAt, validOf, idleRecorder, takenAs, takeOf, giveOf}
-use Rattle.recorder.specs.History.{History, taken, given, givenAll, history, commandIn, commands, going, as-done, as-stop, ending, ended, phaseIn, Accompanied, Each, OfAnswer, Every, Fresh, Unskipped, AllWell, unpolled, answered, AllGood, Whole, Takes, Gives, Rests}
+use Rattle.recorder.specs.Job.{Next, nextIn, dueAt, commandOf, mostCommands, latestProgress, unchanged, validOf, takenAs, takeOf, giveOf}
+use Rattle.recorder.specs.History.{History, taken, given, givenAll, history, commandIn, commands, going, as-done, as-stop, ending, ended, phaseIn, Accompanied, OfAnswer, Every, Fresh, Unskipped, AllWell, unpolled, answered, AllGood, Whole, Takes, Gives}
 use Rattle.recorder.proofs.Lists.{if-yes, if-no, clash, false-true}
 use Rattle.recorder.proofs.Turns.{Played, played, progress-seen}
 use Rattle.recorder.proofs.Scripts.{script-length}

@@ -1,6 +1,6 @@
 -- One reply to the operation that is due: the job goes where the rules go.
 use mathlib.Core.Path.{_≡_, refl, sym, ap, subst, _∙_}
-use mathlib.Core.Bool.{Bool, true, false, not, _&&_}
+use mathlib.Core.Bool.{Bool, true, false, not}
 use mathlib.Core.List.{List, [], _∷_}
 use Prim.Native.Nat.{ℕ, _≤_}
 use native.Mathlib.Omega.{arith}
@@ -14,7 +14,7 @@ use Rattle.recorder.specs.declared.script.Op.the-variants.{GetConfigurat
 use Rattle.recorder.specs.declared.places.Following.{Following}
 use Rattle.recorder.specs.declared.places.Following.the-variants.{Next as Then, Nothing}
 use Rattle.recorder.specs.declared.replies.Reading.{Reading}
-use Rattle.recorder.specs.declared.replies.Reading.the-variants.{NotReady, ProgressIndication, Unread}
+use Rattle.recorder.specs.declared.replies.Reading.the-variants.{ProgressIndication, Unread}
 use Rattle.recorder.specs.declared.exchanges.Seen.{Seen}
 use Rattle.recorder.specs.declared.job.Poll.{Poll}
 use Rattle.recorder.specs.declared.job.Poll.the-variants.{Off, Ready, Sense}
@@ -22,13 +22,12 @@ use Rattle.recorder.specs.declared.job.Progress.{Progress}
 use Rattle.recorder.specs.Answers.{Why, because}
 use Rattle.recorder.specs.Replies.{reading}
 use Rattle.recorder.specs.Script.{isClosing, isPolled}
-use Rattle.recorder.specs.Exchanges.{Exchange, Named, see, seen, name, named}
-use Rattle.recorder.specs.Rules.{Judgement, onward, refused, Test, tested, trackTests, pollsIf, isLast, judge, move, left, none, found, refusedBy, firstRefused}
+use Rattle.recorder.specs.Exchanges.{Named, see, seen, name}
+use Rattle.recorder.specs.Rules.{Judgement, onward, refused, Test, tested, trackTests, pollsIf, isLast, judge, move, none, found, refusedBy}
 use Rattle.recorder.specs.Places.{afterIn}
 use Rattle.recorder.specs.Job.{dueAt, goes, finish, halt, advanced, turnBy, turnOf}
-use Rattle.recorder.proofs.Lists.{none-found, false-true, both, clash}
-use Rattle.recorder.proofs.Turns.{made, Played, nothing, then, a03, Reads, busy, not-ready, failed, malformed, profile, status, information, indication, ready, unread, reads}
-use Rattle.recorder.proofs.Rulings.{unrefused-last}
+use Rattle.recorder.proofs.Lists.{false-true, both}
+use Rattle.recorder.proofs.Turns.{then, Reads, busy, not-ready, failed, malformed, profile, status, information, indication, ready, unread, reads}
 use Rattle.recorder.proofs.Behind.{Sized, behind, onto, Goes, GoesOn, goes-on}
 use Rattle.recorder.proofs.Standing.{long-at, InSession, Standing, StandingThen, standing-closing, stood, stood-polled}
 

@@ -1,7 +1,7 @@
 -- What the rules make of every order and every list of replies, no job in sight: parts 2, 4 and 5.
 use mathlib.Core.Path.{_≡_, refl, sym, ap, subst, _∙_}
 use mathlib.Core.Logic.{_↔_}
-use mathlib.Core.Bool.{Bool, true, false}
+use mathlib.Core.Bool.{Bool, false}
 use mathlib.Core.List.{List, [], _∷_, _++_, append-nil}
 use native.Mathlib.Omega.{arith}
 use lib.ListN.{length, length-append}
@@ -15,7 +15,7 @@ use Rattle.recorder.specs.Rules.{Judgement, move, judged, left, Found, n
 use Rattle.recorder.specs.History.{Each, Unskipped}
 use Rattle.recorder.proofs.Lists.{clash, false-true, none-found}
 use Rattle.recorder.proofs.Turns.{made, Played, nothing, then, Turn, repeats, refuses, works, polls-begin, asks, polls-on, polls-end, turn}
-use Rattle.recorder.proofs.Plans.{kept, blocks-ignore, closings-ignore, Scripted, Shape, working, asking, hearing, shape}
+use Rattle.recorder.proofs.Plans.{kept, blocks-ignore, closings-ignore, Shape, working, asking, hearing, shape}
 use Rattle.recorder.proofs.Scripts.{script-blocks, scripted}
 
 -- one exchange more: it is the first refused if none was before

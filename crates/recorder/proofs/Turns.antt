@@ -1,5 +1,5 @@
 -- One exchange by the rules: the only place where operations and replies are told apart for the plan.
-use mathlib.Core.Path.{_≡_, refl, sym, ap, subst, _∙_}
+use mathlib.Core.Path.{_≡_, refl, ap, subst, _∙_}
 use mathlib.Core.Bool.{Bool, true, false, not, _&&_, _||_}
 use mathlib.Core.List.{List, [], _∷_}
 use Prim.Native.Nat.{ℕ}
@@ -19,7 +19,7 @@ use Rattle.recorder.specs.declared.replies.Reading.{Reading}
 use Rattle.recorder.specs.declared.replies.Reading.the-variants.{Busy, NotReady, Failed, Malformed, Profile, Status, Information, ProgressIndication, Unread}
 use Rattle.recorder.specs.declared.exchanges.Seen.{Seen}
 use Rattle.recorder.specs.Answers.{Why, because}
-use Rattle.recorder.specs.Replies.{senseOf, isBusy, readFailed, isUnready, readUnready, wholeProfile, readProfile, wholeDisc, readStatus, wholeInformation, readInformation, progressOf, readProgress, readGood, failedBy, reading, ofProgress}
+use Rattle.recorder.specs.Replies.{senseOf, isBusy, readFailed, isUnready, readUnready, wholeProfile, readProfile, wholeDisc, readStatus, wholeInformation, readInformation, readProgress, readGood, failedBy, reading, ofProgress}
 use Rattle.recorder.specs.Script.{code, isClosing, asksReady, isPoll, isPolled, polls}
 use Rattle.recorder.specs.Exchanges.{Exchange, wasReady, polling, progress, see, seen}
 use Rattle.recorder.specs.Rules.{Judgement, again, onward, refused, Test, tested, trackTests, pollsIf, judge, judged, left, Found, none, found, firstRefused, command, answerTo, ruled, exchanged, play}

@@ -34,7 +34,7 @@ use Rattle.recorder.specs.declared.job.Recorder.{Recorder}
 use Rattle.recorder.specs.declared.job.Step.{Step}
 use Rattle.recorder.specs.Replies.{reading, UnsignedIn, ForTrack}
 use Rattle.recorder.specs.Answers.{Why, because, drive-failed, Ruling, issue, done, stop, said, bytesOf, cdbOf}
-use Rattle.recorder.specs.Script.{portion, trackIn, isClosing, isPolled, stepwise}
+use Rattle.recorder.specs.Script.{portion, trackIn, isPolled, stepwise}
 use Rattle.recorder.specs.Places.{pieceOf, afterIn}
 use Rattle.recorder.specs.Exchanges.{nothingSeen, see}
 use Rattle.recorder.specs.Rules.{lastFrame, Judgement, again, onward, refused, judge}

@@ -20,7 +20,7 @@ use Rattle.mmc.specs.declared.refusals.Made.the-variants as M
 use Rattle.recorder.specs.Job.{Next, takeOf}
 use Rattle.recorder.specs.declared.job.Recorder.{Recorder}
 use Rattle.lines.specs.Lines.{longest, Writes}
-use Rattle.print.specs.Run.{writtenBy, Stage, answeredOf, repliedTo, cut, blocksOf, fed, begunWith, waitingFor, ending, printed, awaiting, readOn, following, Brings, stageIn, roomFor, Reaches, Reads, Begins, GoesOn}
+use Rattle.print.specs.Run.{writtenBy, Stage, answeredOf, repliedTo, cut, blocksOf, fed, begunWith, waitingFor, ending, printed, awaiting, readOn, following, stageIn, roomFor, Reaches, Begins, GoesOn}
 use Rattle.print.specs.declared.run.Run.{Run}
 
 -- ---- lines

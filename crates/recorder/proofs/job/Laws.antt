@@ -2,21 +2,20 @@
 use mathlib.Core.Path.{_≡_, refl, sym, ap, _∙_}
 use mathlib.Core.Bool.{Bool, true, false, not, _&&_}
 use mathlib.Core.List.{List, []}
-use Prim.Native.Nat.{ℕ, zero, suc, _+_, _-_, _≤_, _<_, _^_}
+use Prim.Native.Nat.{ℕ, suc, _+_, _-_, _≤_, _<_, _^_}
 use native.Mathlib.Numerals.{add-one}
 use native.Mathlib.Omega.{arith}
 use borrow.Author.Tests.{leb-true, not-true, not-false}
 use lib.Dec.{leb}
-use lib.ListN.{length, getD, drop, List·getD-eq-default}
+use lib.ListN.{length, drop}
 use lib.Seq.{getD-drop}
 use Rattle.mmc.specs.Bytes.{if, be32}
 use Rattle.mmc.specs.Refusals.{refuse, numberOf, checked, valueOr}
-use Rattle.mmc.specs.Order.{mostTracks, noTrack, noOrder}
+use Rattle.mmc.specs.Order.{mostTracks, noOrder}
 use Rattle.mmc.specs.OrderBlock.{readOrder}
 use Rattle.mmc.specs.ReplyBlock.{replyOf}
 use Rattle.mmc.specs.declared.units.FrameCount.{FrameCount}
 use Rattle.mmc.specs.declared.order.Order.{Order}
-use Rattle.mmc.specs.declared.order.Track.{Track}
 use Rattle.mmc.specs.declared.order.Method.{Method}
 use Rattle.mmc.specs.declared.order.Method.the-variants.{Tao, Sao}
 use Rattle.mmc.specs.declared.refusals.Refusal.{Refusal}

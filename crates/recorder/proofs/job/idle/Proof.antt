@@ -1,4 +1,3 @@
-use mathlib.Core.Path.{_≡_}
 use borrow.Author.Needs.{needs}
 use Rattle.recorder.proofs.job.Laws.{rests}
 use Rattle.recorder.proofs.job.idle.Statement.{statement}
