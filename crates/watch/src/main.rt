@@ -7,6 +7,7 @@ ghost use mathlib.Core.Path.{_≡_};
 ghost use Prim.Native.Nat.{_≤_};
 ghost use lib.ListN.{length};
 ghost use Rattle.lines.specs.Shown.{widest};
+ghost use Rattle.watch.specs.Bench.{ExampleStages};
 ghost use Rattle.watch.specs.Watch.{stageIn, Finishes};
 use crate::stage::Watch;
 use crate::stage::begin;
@@ -57,9 +58,10 @@ fn flush(terminal: bool, last: bool, w: Watch, text: &[u8]) -> Watch
 }
 
 // Reads on until no reply is awaited. A proved loop has to end, so it counts its turns down from a number that no run uses up.
+// Its contract also keeps the short inputs, which hold of the definitions that the program meets.
 fn finish(terminal: bool, first: Watch, block: &mut [u8], text: &mut [u8]) -> Watch
     requires { ⌜ (length (now block) ≡ 512) × (length (now text) ≡ widest) ⌝ }
-    ensures { λ r. ⌜ Finishes (stageIn first (now (text .entry))) r (now (text .exit)) ⌝ }
+    ensures { λ r. ⌜ (Finishes (stageIn first (now (text .entry))) r (now (text .exit))) × ExampleStages ⌝ }
 {
     let mut w = first;
     let mut turns = u64::MAX;

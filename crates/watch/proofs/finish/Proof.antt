@@ -5,6 +5,7 @@ use native.Mathlib.Omega.{arith}
 use lib.ListN.{length, take}
 use Rattle.watch.specs.Watch.{Stage, afterReads, stageIn}
 use Rattle.watch.specs.declared.stage.Watch.{Watch}
+use Rattle.watch.proofs.Bench.{example-stages}
 use Rattle.watch.proofs.stage.Laws.{again}
 use Rattle.watch.proofs.finish.Statement.{statement}
 use Rattle.watch.proofs.finish.Tie as tie
@@ -73,7 +74,7 @@ same-length-2 c = c .before .before .loop .inv .1
 returns : tie.Need-returns Inv-loop μ-loop
 returns c =
     let r = c .before .before .loop .inv .2 in
-    record { reads = r .0; stage = r .1; ended = λ h. c .if1 .left }
+    (record { reads = r .0; stage = r .1; ended = λ h. c .if1 .left }, example-stages)
 
 same-length-3 : tie.Need-same-length-3 Inv-loop μ-loop
 same-length-3 c = c .before .loop .inv .0
@@ -84,7 +85,7 @@ same-length-4 c = c .before .loop .inv .1
 returns-2 : tie.Need-returns-2 Inv-loop μ-loop
 returns-2 c =
     let r = c .before .loop .inv .2 in
-    record { reads = r .0; stage = r .1; ended = λ h. absurd (omega arith) }
+    (record { reads = r .0; stage = r .1; ended = λ h. absurd (omega arith) }, example-stages)
 
 pub finish-spec : {M : Type 1} → statement M
 finish-spec =
