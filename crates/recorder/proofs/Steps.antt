@@ -134,6 +134,10 @@ again q k h y v =
 
 -- ---- a job that goes on
 
+stopped-phase : (w : Why) → phaseOf w ≡ phaseIn (as-stop w)
+stopped-phase (because n) = refl
+stopped-phase (drive-failed x) = refl
+
 stopped-rests : (w : Why) → restsAt (phaseOf w) ≡ true
 stopped-rests (because n) = refl
 stopped-rests (drive-failed x) = refl
@@ -206,7 +210,7 @@ module _ (o : Order) (k : ℕ) (x : Op) (p : Poll) (n : ℕ) (xs : List Ruling) 
     where
       go : Moved o x p v (named es) (reading d y) → Goal (turnOf o (at x p v) (reading d y))
       go (on-to z q t j m s) = subst Goal (sym t) (open-so (on z q t j m s))
-      go (stops w t j) = subst Goal (sym t) (over-so (end-at (phaseOf w) (stop w) refl (stopped-rests w) refl refl (ruled-stop o (e ∷ es) w (refused-next o es e (found w) (g .unrefused) j))))
+      go (stops w t j) = subst Goal (sym t) (over-so (end-at (phaseOf w) (stop w) (stopped-phase w) (stopped-rests w) refl refl (ruled-stop o (e ∷ es) w (refused-next o es e (found w) (g .unrefused) j))))
       go (ends t j m) = subst Goal (sym t) (over-so (end-at Finished done refl refl refl refl (ruled-at o (e ∷ es) [] (refused-next o es e none (g .unrefused) j) (ap (move (judged o es e)) (g .plan) ∙ m))))
 
 -- any reply

@@ -78,12 +78,16 @@ first y = refusal (pass (order Tao (300 ∷ []))) (play (pass (order Tao (300 �
 abbrev pub failing : ℕ → ℕ → ℕ
 failing code n = numberIn (first (failed n code 0x02 0x04 0x08))
 
--- a good reply with another beginning, and one of so many bytes
+-- a good reply with another beginning, one of so many bytes
 abbrev pub headed : List ℕ → Reply → Reply
 headed h y = replyOf true (h ++ drop (length h) (y .bytes))
 
 abbrev pub cut : ℕ → Reply → Reply
 cut n y = replyOf true (take n (y .bytes))
+
+-- and one of four more
+abbrev pub longer : Reply → Reply
+longer y = replyOf (y .good) (y .bytes ++ replicate 4 0)
 
 -- the first refusal of a track at once of 300 blocks where so changed a reply follows k plain ones
 abbrev pub changed : ℕ → (Reply → Reply) → ℕ
@@ -109,8 +113,11 @@ closing ys = play (pass (immediate (order Tao (300 ∷ [])))) [] (replicate 24 (
 abbrev pub due : List Reply → ℕ
 due ys = getD (bytesOf true 1 (ruled (pass (immediate (order Tao (300 ∷ [])))) (closing ys))) 0 0xFF
 
+abbrev pub refusing : List Reply → Found
+refusing ys = refusal (pass (immediate (order Tao (300 ∷ [])))) (closing ys)
+
 abbrev pub stopped : List Reply → ℕ
-stopped ys = numberIn (refusal (pass (immediate (order Tao (300 ∷ [])))) (closing ys))
+stopped ys = numberIn (refusing ys)
 
 -- a good reply without data; one of so many bytes of sense data whose bytes 15 to 17 are these; failed sense data 02h/04h
 abbrev pub good : Reply
@@ -142,23 +149,30 @@ pub record PollSheets : Type 0 where
       ∷ []
       ∷ []
   -- "fails with code 70h and 02h/04h, any ASCQ": the 03h follows, for 08h too, and by F0h
-  pub any-qualifier : due (unready 0x70 0x00 ∷ []) ∷ due (unready 0x70 0x08 ∷ []) ∷ due (unready 0x70 0xFF ∷ []) ∷ due (unready 0xF0 0x07 ∷ []) ∷ [] ≡ replicate 4 0x03
+  pub any-qualifier : due (unready 0x70 0x00 ∷ []) ∷ due (unready 0x70 0x08 ∷ []) ∷ due (unready 0x70 0xFF ∷ []) ∷ due (unready 0xF0 0x07 ∷ []) ∷ due (longer (unready 0x70 0x04) ∷ []) ∷ [] ≡ replicate 5 0x03
   -- not by 71h, another code, another key or additional sense code, nor with 13 bytes: 12
   pub not-unready :
       stopped (unready 0x71 0x08 ∷ [])
       ∷ stopped (unready 0x72 0x08 ∷ [])
       ∷ stopped (failed 14 0x70 0x03 0x04 0x08 ∷ [])
+      ∷ stopped (failed 14 0x70 0x01 0x04 0x08 ∷ [])
+      ∷ stopped (failed 14 0x70 0x0A 0x04 0x08 ∷ [])
       ∷ stopped (failed 14 0x70 0x02 0x05 0x08 ∷ [])
+      ∷ stopped (failed 14 0x70 0x02 0x03 0x08 ∷ [])
       ∷ stopped (failed 13 0x70 0x02 0x04 0x08 ∷ [])
       ∷ []
-      ≡ replicate 5 12
+      ≡ replicate 8 12
+  -- each with its triple, and so a 03h that fails
+  pub triple-of-poll : refusing (unready 0x71 0x08 ∷ []) ∷ refusing (good ∷ unready 0x70 0x07 ∷ []) ∷ [] ≡ found (drive-failed (record { key = 2; asc = 4; ascq = 8 })) ∷ found (drive-failed (record { key = 2; asc = 4; ascq = 7 })) ∷ []
   -- ready and no progress: onward; not ready and no progress, ready and progress: one more round
-  pub rounds : due (good ∷ sense 18 0 0 0 ∷ []) ∷ due (unready 0x70 0x04 ∷ sense 18 0 0 0 ∷ []) ∷ due (good ∷ sense 18 0x80 0 1 ∷ []) ∷ due (good ∷ sense 18 0x80 1 0 ∷ []) ∷ [] ≡ 0x5B ∷ 0x00 ∷ 0x00 ∷ 0x00 ∷ []
+  pub rounds : due (good ∷ sense 18 0 0 0 ∷ []) ∷ due (unready 0x70 0x04 ∷ sense 18 0 0 0 ∷ []) ∷ due (good ∷ sense 18 0x80 0 1 ∷ []) ∷ due (good ∷ sense 18 0x80 1 0 ∷ []) ∷ due (good ∷ sense 18 0x80 0xFF 0xFF ∷ []) ∷ [] ≡ 0x5B ∷ replicate 4 0x00
   -- progress counts with bit 7 of byte 15 alone
-  pub without-bit : due (good ∷ sense 18 0x7F 1 1 ∷ []) ∷ due (good ∷ sense 18 0xFF 0 0 ∷ []) ∷ [] ≡ 0x5B ∷ 0x5B ∷ []
+  pub without-bit : due (good ∷ sense 18 0x7F 1 1 ∷ []) ∷ due (good ∷ sense 18 0xFF 0 0 ∷ []) ∷ due (good ∷ sense 18 0xFF 0 1 ∷ []) ∷ [] ≡ 0x5B ∷ 0x5B ∷ 0x00 ∷ []
+  -- "of a good one bytes 15 to 17 count and nothing else": not what it says of 02h/04h/08h
+  pub nothing-else : due (good ∷ replyOf true (longer (unready 0x70 0x08) .bytes) ∷ []) ≡ 0x5B
   -- a busy 03h goes again alone, "and what the 00h before it said still counts"
   pub busy-sense :
-      due (good ∷ unready 0x70 0x08 ∷ [])
+      due (good ∷ longer (unready 0x70 0x08) ∷ [])
       ∷ due (good ∷ unready 0x70 0x08 ∷ unready 0xF0 0x08 ∷ sense 18 0 0 0 ∷ [])
       ∷ due (unready 0x70 0x01 ∷ unready 0x70 0x08 ∷ sense 18 0 0 0 ∷ [])
       ∷ []
@@ -173,17 +187,21 @@ pub record PollSheets : Type 0 where
       progress (closing (good ∷ []))
       ∷ progress (closing (good ∷ sense 18 0x80 0x12 0x34 ∷ []))
       ∷ progress (closing (good ∷ sense 18 0x80 0x12 0x34 ∷ unready 0x70 0x04 ∷ unready 0x70 0x08 ∷ []))
+      ∷ progress (closing (good ∷ sense 18 0x80 0x12 0x34 ∷ good ∷ []))
+      ∷ progress (closing (good ∷ sense 18 0x80 0xFF 0xFF ∷ []))
       ∷ []
-      ≡ 0 ∷ 0x1234 ∷ 0x1234 ∷ []
+      ≡ 0 ∷ 0x1234 ∷ 0x1234 ∷ 0x1234 ∷ 0xFFFF ∷ []
   -- no forged state polls without the flag, or what is not polled; no poll is a place
   pub forged :
       passesAt (order Tao (300 ∷ [])) CloseSession Ready 0
+      ∷ passesAt (order Tao (300 ∷ [])) CloseSession Sense 0
+      ∷ passesAt (immediate (order Tao (300 ∷ []))) (writing 1 0 16) Ready 0
       ∷ passesAt (immediate (order Tao (300 ∷ []))) (ModeSelect (record { 0 = 1 })) Sense 0
       ∷ passes (immediate (order Tao (300 ∷ []))) TestUnitReady 0
       ∷ passes (immediate (order Tao (300 ∷ []))) RequestSense 0
       ∷ passesAt (immediate (order Tao (300 ∷ []))) CloseSession Sense 0
       ∷ []
-      ≡ false ∷ false ∷ false ∷ false ∷ true ∷ []
+      ≡ replicate 6 false ++ (true ∷ [])
 
 pub record BenchSheets : Type 0 where
   -- those of the byte layouts
@@ -260,6 +278,9 @@ pub record BenchSheets : Type 0 where
   pub short-triple : first (failed 13 0x70 0x03 0x0C 0x02) ≡ found (drive-failed noSense)
   -- the least bytes of the replies to 46h, 51h and 52h, and the least that their length fields say
   pub least-bytes : changed 0 (cut 7) ∷ changed 0 (cut 8) ∷ changed 1 (cut 33) ∷ changed 1 (cut 34) ∷ changed 2 (cut 27) ∷ changed 2 (cut 28) ∷ [] ≡ 4 ∷ 0 ∷ 4 ∷ 0 ∷ 4 ∷ 0 ∷ []
+  -- more is no fault
+  pub more-bytes : changed 0 longer ∷ changed 1 longer ∷ changed 2 longer ∷ [] ≡ replicate 3 0
+  pub more-said : changed 1 (headed (0xFF ∷ 0xFF ∷ [])) ∷ changed 2 (headed (0xFF ∷ 0xFF ∷ [])) ∷ [] ≡ replicate 2 0
   pub least-46 : changed 0 (headed (0 ∷ 0 ∷ 0 ∷ 3 ∷ [])) ∷ changed 0 (headed (0 ∷ 0 ∷ 0 ∷ 4 ∷ [])) ∷ [] ≡ 4 ∷ 0 ∷ []
   pub least-51 : changed 1 (headed (0 ∷ 31 ∷ [])) ∷ changed 1 (headed (0 ∷ 32 ∷ [])) ∷ [] ≡ 4 ∷ 0 ∷ []
   pub least-52 : changed 2 (headed (0 ∷ 25 ∷ [])) ∷ changed 2 (headed (0 ∷ 26 ∷ [])) ∷ [] ≡ 4 ∷ 0 ∷ []

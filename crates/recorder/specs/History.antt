@@ -20,14 +20,14 @@ use Rattle.recorder.specs.declared.script.Op.{Op}
 use Rattle.recorder.specs.declared.script.Op.the-variants.{ModeSelect, SendCueSheet}
 use Rattle.recorder.specs.declared.answers.Command.{Command}
 use Rattle.recorder.specs.declared.job.Phase.{Phase}
-use Rattle.recorder.specs.declared.job.Phase.the-variants.{Going, Finished}
+use Rattle.recorder.specs.declared.job.Phase.the-variants.{Idle, Going, Finished, Stopped, Failed}
 use Rattle.recorder.specs.declared.job.Recorder.{Recorder}
 use Rattle.recorder.specs.declared.job.Step.{Step}
-use Rattle.recorder.specs.Answers.{Why, because, Ruling, issue, done, stop, sheetBytes, madeFor, bytesIn}
+use Rattle.recorder.specs.Answers.{Why, because, drive-failed, Ruling, issue, done, stop, sheetBytes, madeFor, bytesIn}
 use Rattle.recorder.specs.Script.{gather, asksReady, isPoll, stepwise, write, Block, script, expected}
 use Rattle.recorder.specs.Exchanges.{Exchange, recorded, occupied, polling, progress, seen, Named, named}
 use Rattle.recorder.specs.Rules.{otherProfile, unsuitable, mixedOrKept, none, found, refusal, ruled, exchanged, play, orderedIn, AllClosed}
-use Rattle.recorder.specs.Job.{Next, nextIn, mostCommands, phaseOf, latestProgress, unchanged, validOf, idleRecorder, takeOf, giveOf}
+use Rattle.recorder.specs.Job.{Next, nextIn, mostCommands, latestProgress, unchanged, validOf, idleRecorder, takeOf, giveOf}
 
 -- what the calls gave back since the order was taken: the last step; all answers, and the commands with the replies to them, the
 -- latest first
@@ -87,11 +87,15 @@ abbrev pub ended : List Ruling → Ending
 ended [] = going
 ended (a ∷ xs) = sooner (ended xs) (ending a)
 
--- how the recorder's state says so
+-- how the recorder's state says so: "stopped with its number", 12 with its triple
+abbrev pub stoppedBy : Why → Phase
+stoppedBy (because n) = Stopped n
+stoppedBy (drive-failed s) = Failed s
+
 abbrev pub phaseIn : Ending → Phase
 phaseIn going = Going
 phaseIn as-done = Finished
-phaseIn (as-stop w) = phaseOf w
+phaseIn (as-stop w) = stoppedBy w
 
 -- ---- what goes with a command that is given
 
@@ -256,3 +260,7 @@ pub record Gives (r : Recorder) (good : Bool) (d : List ℕ) (s : Step) : Type 0
 pub record Rests (r : Recorder) : Type 0 where
   pub state : r ≡ idleRecorder
   pub unmoved : (good : Bool) (d : List ℕ) → giveOf r good d ≡ unchanged r 13
+  -- the panel shows it as idle, it has given no command, and it passes the recorder's own test
+  pub is-idle : r .phase ≡ Idle
+  pub none-given : r .count ≡ 0
+  pub is-valid : validOf r ≡ true

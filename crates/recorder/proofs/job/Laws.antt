@@ -46,7 +46,7 @@ use Rattle.recorder.proofs.Apart.{passed}
 use Rattle.recorder.proofs.Standing.{limits}
 use Rattle.recorder.specs.History.{Rests}
 use Rattle.recorder.proofs.Makes.{of-piece}
-use Rattle.recorder.proofs.Steps.{give-over}
+use Rattle.recorder.proofs.Steps.{ended-valid, give-over}
 
 -- ---- the pieces of a place, and the test of it
 
@@ -222,4 +222,14 @@ module _ (r : Recorder) (good : Bool) (d : List ℕ) {x : Next} {w : Bool} (e : 
 -- ---- a recorder that has taken no order
 
 pub rests : (r : Recorder) → r ≡ idleRecorder → Rests r
-rests r e = record { state = e; unmoved = λ good d. give-over r good d (ap (λ (x : Recorder). restsAt (x .phase)) e) }
+rests r e =
+    record {
+      state = e;
+      unmoved = λ good d. give-over r good d h;
+      is-idle = ap (λ (x : Recorder). x .phase) e;
+      none-given = ap (λ (x : Recorder). x .count) e;
+      is-valid = ended-valid r h;
+    }
+  where
+    h : restsAt (r .phase) ≡ true
+    h = ap (λ (x : Recorder). restsAt (x .phase)) e
