@@ -307,6 +307,7 @@ module _ (b : List ℕ) (rs : List Reply) where
         let a = given-unpolled in
         let i : min (unpolled (answered es) + 1) (expected o) ≡ unpolled (answered es) + 1 = omega arith in
         record {
+          exact = λ y. clash (cc (sym (so-ended ∙ x) ∙ y));
           given-count = omega arith ∙ sym (if-no _ _ p ∙ i);
           done-at = λ y z. absurd (omega arith);
           not-before = λ y. so-ended ∙ x;
@@ -321,6 +322,7 @@ module _ (b : List ℕ) (rs : List Reply) where
     all-good-by (polled x l p c n) =
         let a = given-unpolled in
         record {
+          exact = λ y. clash (cc (sym (so-ended ∙ x) ∙ y));
           given-count = omega arith ∙ sym (if-yes _ _ p);
           done-at = λ y z. absurd (false-true (sym z ∙ p));
           not-before = λ y. so-ended ∙ x;
@@ -332,6 +334,7 @@ module _ (b : List ℕ) (rs : List Reply) where
         let a = given-unpolled in
         let i : min (unpolled (answered es) + 1) (expected o) ≡ expected o = omega arith in
         record {
+          exact = λ y. omega arith;
           given-count = omega arith ∙ sym (if-no _ _ p ∙ i);
           done-at = λ y z. so-ended ∙ x;
           not-before = λ y. absurd (omega arith);

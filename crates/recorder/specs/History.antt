@@ -156,9 +156,11 @@ answered (e ∷ es) = e .command ∷ answered es
 
 -- "it is done after exactly the count in document 01", "where every polling ends": of k replies
 pub record AllGood (o : Order) (k : ℕ) (es : List Exchange) (answers : List Ruling) : Type 0 where
-  -- the commands that are no polls: one more than those answered, up to the count, and none more while a polling is under way
+  -- the commands that are no polls are exactly the count when it is done
+  pub exact : ended answers ≡ as-done → unpolled (commands answers) ≡ expected o
+  -- and on the way: one more than those answered, up to the count, and none more while a polling is under way
   pub given-count : unpolled (commands answers) ≡ if (polling (o .immed) es) (unpolled (answered es)) (min (unpolled (answered es) + 1) (expected o))
-  -- done as soon as the whole count is answered and no polling is under way, and not before; each reply answers a command until then
+  -- it is done as soon as the whole count is answered and the last polling has ended, and not before; each reply answers a command until then
   pub done-at : expected o ≤ unpolled (answered es) → polling (o .immed) es ≡ false → ended answers ≡ as-done
   pub not-before : unpolled (answered es) < expected o → ended answers ≡ going
   pub not-polling : polling (o .immed) es ≡ true → ended answers ≡ going
