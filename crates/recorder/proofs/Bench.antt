@@ -15,6 +15,8 @@ poll-sheets : PollSheets
 unfolding sheetSize sendCueSheet closeTrackSession framesTo bytes32 be32 allKind allLong blocksOf inRange addressAt writeRange writeBytes writeCommand hasSense senseOf longWrite isBusy readFailed notReady isUnready readUnready progressOf readProgress wholeProfile readProfile wholeDisc readStatus wholeInformation informationOf readInformation otherProfile unsuitable unusable mixedOrKept fits inOrder inTime inPiece isWrite standsIn
 poll-sheets =
     record {
+      each-track = refl;
+      session = refl;
       commands = refl;
       any-qualifier = refl;
       not-unready = refl;

@@ -129,7 +129,20 @@ sense n fifteen sixteen seventeen = replyOf true (take n (replicate 15 0 ++ (fif
 abbrev pub unready : ℕ → ℕ → Reply
 unready code ascq = failed 14 code 0x02 0x04 ascq
 
+-- the bytes that are given in a track at once of twice 300 blocks, k replies after the second 52h is due
+abbrev pub second : ℕ → List ℕ
+second k = bytesOf true 2 (ruled (pass (immediate (order Tao (300 ∷ 300 ∷ [])))) (play (pass (immediate (order Tao (300 ∷ 300 ∷ [])))) [] (replicate 29 (plain 0 7 617) ++ replicate k (plain 0 308 617))))
+
 pub record PollSheets : Type 0 where
+  -- the second track's 35h and 5Bh have Immed and are polled too, and so is the 35h of a session at once
+  pub each-track : second 21 ∷ take 1 (second 22) ∷ take 1 (second 23) ∷ second 24 ∷ take 1 (second 25) ∷ take 1 (second 26) ∷ take 3 (second 27) ∷ [] ≡ (0x35 ∷ 0x02 ∷ replicate 8 0) ∷ (0x00 ∷ []) ∷ (0x03 ∷ []) ∷ (0x5B ∷ 0x01 ∷ 1 ∷ 0 ∷ 0 ∷ 0xFF ∷ replicate 4 0) ∷ (0x00 ∷ []) ∷ (0x03 ∷ []) ∷ (0x5B ∷ 0x01 ∷ 2 ∷ []) ∷ []
+  pub session :
+      bytesAfter 53 (immediate (order Sao (300 ∷ 300 ∷ []))) (plain 0 0 600)
+      ∷ take 1 (bytesAfter 54 (immediate (order Sao (300 ∷ 300 ∷ []))) (plain 0 0 600))
+      ∷ take 1 (bytesAfter 55 (immediate (order Sao (300 ∷ 300 ∷ []))) (plain 0 0 600))
+      ∷ bytesAfter 56 (immediate (order Sao (300 ∷ 300 ∷ []))) (plain 0 0 600)
+      ∷ []
+      ≡ (0x35 ∷ 0x02 ∷ replicate 8 0) ∷ (0x00 ∷ []) ∷ (0x03 ∷ []) ∷ [] ∷ []
   -- Immed in 35h and in both 5Bh; 00h and 03h after 35h; six more commands: "done comes after the last polling"
   pub commands :
       bytesAfter 23 (immediate (order Tao (300 ∷ []))) (plain 0 0 300)
