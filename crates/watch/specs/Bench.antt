@@ -3,7 +3,7 @@ use mathlib.Core.Path.{_≡_}
 use mathlib.Core.Bool.{Bool, true, false}
 use mathlib.Core.List.{List, [], _∷_}
 use Prim.Native.Nat.{ℕ}
-use lib.ListN.{take, replicate}
+use lib.ListN.{take}
 use Rattle.mmc.specs.OrderBlock.{orderBytes}
 use Rattle.mmc.specs.ReplyBlock.{replyOf, replyBytes}
 use Rattle.mmc.specs.Bench.{oneData}
