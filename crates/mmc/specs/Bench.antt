@@ -13,7 +13,7 @@ use Rattle.mmc.specs.OrderBlock.{orderBytes, orderBlock, readOrder}
 use Rattle.mmc.specs.Times.{timeOf}
 use Rattle.mmc.specs.Page.{page}
 use Rattle.mmc.specs.Sheet.{sheetFault, cueSheet}
-use Rattle.mmc.specs.Commands.{writeCommand, synchronizeCache, closeTrackSession, testUnitReady, requestSense}
+use Rattle.mmc.specs.Commands.{writeCommand, synchronizeCache, closeTrackSession, testUnitReady, requestSense, blank}
 use Rattle.mmc.specs.declared.units.BlockAddress.{BlockAddress}
 use Rattle.mmc.specs.declared.times.Time.{Time}
 use Rattle.mmc.specs.declared.order.Order.{Order}
@@ -29,23 +29,23 @@ abbrev pub track : Kind → ℕ → Track
 track k n = record { kind = k; length = record { 0 = n } }
 
 -- an order of the tracks given, of which it says that it has n
-abbrev pub order : Method → Bool → Bool → Bool → ℕ → List Track → Order
-order m keep protect immed n tracks = record { method = m; keep = keep; protect = protect; immed = immed; count = n; tracks = tracks }
+abbrev pub order : Method → Bool → Bool → Bool → Bool → ℕ → List Track → Order
+order m keep protect immed erase n tracks = record { method = m; keep = keep; protect = protect; immed = immed; erase = erase; count = n; tracks = tracks }
 
 -- SAO, no flags, one data track
 abbrev pub oneData : ℕ → Order
-oneData l = order Sao false false false 1 (track Data l ∷ replicate 98 noTrack)
+oneData l = order Sao false false false false 1 (track Data l ∷ replicate 98 noTrack)
 
 -- 99 audio tracks, of which it says that it has n
 abbrev pub counting : ℕ → Order
-counting n = order Sao false false false n (replicate 99 (track Audio 300))
+counting n = order Sao false false false false n (replicate 99 (track Audio 300))
 
 -- the block of TAO, one data track of 300, with a byte of flags, and the order in it
 abbrev pub flagsBlock : ℕ → List ℕ
 flagsBlock n = sealed (0x01 ∷ 0x01 ∷ n ∷ 0x01 ∷ 0x01 ∷ 0x00 ∷ 0x00 ∷ 0x01 ∷ 0x2C ∷ replicate 501 0)
 
-abbrev pub flagsOrder : Bool → Bool → Bool → Order
-flagsOrder keep protect immed = order Tao keep protect immed 1 (track Data 300 ∷ replicate 98 noTrack)
+abbrev pub flagsOrder : Bool → Bool → Bool → Bool → Order
+flagsOrder keep protect immed erase = order Tao keep protect immed erase 1 (track Data 300 ∷ replicate 98 noTrack)
 
 abbrev pub address : ℤ → BlockAddress
 address z = record { 0 = z }
@@ -59,7 +59,7 @@ pub record BenchSheets : Type 0 where
   -- SAO, no flags, one data track of 300
   pub block : orderBlock (oneData 300) ≡ pass (0x01 ∷ 0x02 ∷ 0x00 ∷ 0x01 ∷ 0x01 ∷ 0x00 ∷ 0x00 ∷ 0x01 ∷ 0x2C ∷ replicate 501 0 ++ 0x00 ∷ 0x32 ∷ [])
   -- track count 0 or 100: 3; 1 and 99 pass
-  pub none : readOrder (orderBytes (order Sao false false false 0 (replicate 99 noTrack))) ≡ refuse 3
+  pub none : readOrder (orderBytes (order Sao false false false false 0 (replicate 99 noTrack))) ≡ refuse 3
   pub hundred : readOrder (orderBytes (counting 100)) ≡ refuse 3
   pub one : readOrder (orderBytes (oneData 300)) ≡ pass (oneData 300)
   pub ninety-nine : readOrder (orderBytes (counting 99)) ≡ pass (counting 99)
@@ -70,7 +70,7 @@ pub record BenchSheets : Type 0 where
   pub fits : sheetFault (oneData 449849) ≡ 0
   pub beyond : sheetFault (oneData 449850) ≡ 10
   -- audio 300 and 450
-  pub sheet : cueSheet (order Sao false false false 2 (track Audio 300 ∷ track Audio 450 ∷ replicate 97 noTrack))
+  pub sheet : cueSheet (order Sao false false false false 2 (track Audio 300 ∷ track Audio 450 ∷ replicate 97 noTrack))
       ≡ pass (
       (0x01 ∷ 0x00 ∷ 0x00 ∷ 0x01 ∷ 0x00 ∷ 0x00 ∷ 0x00 ∷ 0x00 ∷ [])
       ++ (0x01 ∷ 0x01 ∷ 0x00 ∷ 0x00 ∷ 0x00 ∷ 0x00 ∷ 0x00 ∷ 0x00 ∷ [])
@@ -78,7 +78,7 @@ pub record BenchSheets : Type 0 where
       ++ (0x01 ∷ 0x02 ∷ 0x01 ∷ 0x00 ∷ 0x00 ∷ 0x00 ∷ 0x06 ∷ 0x00 ∷ [])
       ++ (0x01 ∷ 0xAA ∷ 0x01 ∷ 0x01 ∷ 0x00 ∷ 0x00 ∷ 0x0C ∷ 0x00 ∷ []))
   -- TAO data, keep, protected: page starts 05 32 41 C4 08
-  pub starts : take 5 (page (flagsOrder true true false) Data) ≡ 0x05 ∷ 0x32 ∷ 0x41 ∷ 0xC4 ∷ 0x08 ∷ []
+  pub starts : take 5 (page (flagsOrder true true false false) Data) ≡ 0x05 ∷ 0x32 ∷ 0x41 ∷ 0xC4 ∷ 0x08 ∷ []
   -- -150 is 00:00:00, 0 is 00:02:00, 449,849 is 99:59:74; -151 is refused, 15
   pub first-time : timeOf (address (negsuc 149)) ≡ pass (time 0 0 0)
   pub zero-time : timeOf (address (pos 0)) ≡ pass (time 0 2 0)
@@ -86,12 +86,15 @@ pub record BenchSheets : Type 0 where
   pub no-time : timeOf (address (negsuc 150)) ≡ refuse 15
   -- first SAO WRITE
   pub write : writeCommand (address (negsuc 149)) (record { 0 = 16 }) ≡ pass (0x2A ∷ 0x00 ∷ 0xFF ∷ 0xFF ∷ 0xFF ∷ 0x6A ∷ 0x00 ∷ 0x00 ∷ 0x10 ∷ 0x00 ∷ [])
-  -- document 02: flag bit 2 is Immed; flags 7 pass, 8: 3
-  pub immed : readOrder (flagsBlock 4) ≡ pass (flagsOrder false false true)
-  pub flags : readOrder (flagsBlock 7) ≡ pass (flagsOrder true true true)
-  pub no-flag : readOrder (flagsBlock 8) ≡ refuse 3
-  -- 35h and 5Bh with Immed; 00h and 03h
+  -- document 02: flag bit 2 is Immed, bit 3 erase; flags 15 pass, 16: 3
+  pub immed : readOrder (flagsBlock 4) ≡ pass (flagsOrder false false true false)
+  pub erase : readOrder (flagsBlock 8) ≡ pass (flagsOrder false false false true)
+  pub flags : readOrder (flagsBlock 15) ≡ pass (flagsOrder true true true true)
+  pub no-flag : readOrder (flagsBlock 16) ≡ refuse 3
+  -- 35h and 5Bh with Immed; 00h and 03h; A1h without and with Immed
   pub synchronize : synchronizeCache true ≡ 0x35 ∷ 0x02 ∷ 0x00 ∷ 0x00 ∷ 0x00 ∷ 0x00 ∷ 0x00 ∷ 0x00 ∷ 0x00 ∷ 0x00 ∷ []
   pub close : closeTrackSession true 1 (record { 0 = 2 }) ≡ pass (0x5B ∷ 0x01 ∷ 0x01 ∷ 0x00 ∷ 0x00 ∷ 0x02 ∷ 0x00 ∷ 0x00 ∷ 0x00 ∷ 0x00 ∷ [])
   pub ready : testUnitReady ≡ 0x00 ∷ 0x00 ∷ 0x00 ∷ 0x00 ∷ 0x00 ∷ 0x00 ∷ []
   pub sense : requestSense ≡ 0x03 ∷ 0x00 ∷ 0x00 ∷ 0x00 ∷ 0x12 ∷ 0x00 ∷ []
+  pub blanks : blank false ≡ 0xA1 ∷ 0x01 ∷ 0x00 ∷ 0x00 ∷ 0x00 ∷ 0x00 ∷ 0x00 ∷ 0x00 ∷ 0x00 ∷ 0x00 ∷ 0x00 ∷ 0x00 ∷ []
+  pub blanks-at-once : blank true ≡ 0xA1 ∷ 0x11 ∷ 0x00 ∷ 0x00 ∷ 0x00 ∷ 0x00 ∷ 0x00 ∷ 0x00 ∷ 0x00 ∷ 0x00 ∷ 0x00 ∷ 0x00 ∷ []

@@ -1,5 +1,5 @@
--- "Command bytes": ten bytes each, but 00h and 03h six; unnamed ones 0.
-use Prim.Native.Nat.{ℕ, suc, _-_, _/_, _%_, _^_}
+-- "Command bytes": ten bytes each, but 00h and 03h six and A1h twelve; unnamed ones 0.
+use Prim.Native.Nat.{ℕ, suc, _+_, _-_, _/_, _%_, _^_}
 use mathlib.Core.List.{List, [], _∷_, _++_}
 use mathlib.Core.Bool.{Bool, _&&_}
 use lib.ListN.{replicate}
@@ -66,3 +66,7 @@ testUnitReady = replicate 6 0
 -- REQUEST SENSE: 03h, 12h in 4, six bytes
 abbrev pub requestSense : List ℕ
 requestSense = 0x03 ∷ 0 ∷ 0 ∷ 0 ∷ 0x12 ∷ 0 ∷ []
+
+-- BLANK: A1h, blanking type 01h (minimal) in 1, Immed in bit 4 of 1, twelve bytes
+abbrev pub blank : Bool → List ℕ
+blank immed = 0xA1 ∷ (0x01 + if immed 0x10 0) ∷ replicate 10 0

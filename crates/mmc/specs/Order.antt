@@ -40,7 +40,7 @@ allNone (t ∷ ts) = isNone t && allNone ts
 
 -- what stands where there is no order
 unfoldable pub noOrder : Order
-noOrder = record { method = Tao; keep = false; protect = false; immed = false; count = 0; tracks = replicate mostTracks noTrack }
+noOrder = record { method = Tao; keep = false; protect = false; immed = false; erase = false; count = 0; tracks = replicate mostTracks noTrack }
 
 -- 3: an order has 1 to 99 tracks, and no track past them
 unfoldable pub validOrder : Order → Bool

@@ -26,9 +26,9 @@ methodByte Sao = 2
 unfoldable pub methodOf : ℕ → Method
 methodOf n = if (eqb n 1) Tao Sao
 
--- "byte 2 flags, bit 0 keep appendable, bit 1 buffer underrun protection, bit 2 Immed, other bits 0"
-abbrev pub flagsByte : Bool → Bool → Bool → ℕ
-flagsByte keep protect immed = if keep 1 0 + if protect 2 0 + if immed 4 0
+-- "byte 2 flags, bit 0 keep appendable, bit 1 buffer underrun protection, bit 2 Immed, bit 3 erase, other bits 0"
+abbrev pub flagsByte : Bool → Bool → Bool → Bool → ℕ
+flagsByte keep protect immed erase = if keep 1 0 + if protect 2 0 + if immed 4 0 + if erase 8 0
 
 unfoldable pub keepOf : ℕ → Bool
 keepOf flags = eqb (flags % 2) 1
@@ -39,12 +39,15 @@ protectOf flags = eqb (flags / 2 % 2) 1
 unfoldable pub immedOf : ℕ → Bool
 immedOf flags = eqb (flags / 4 % 2) 1
 
--- the last method, and the flags with all three bits
+unfoldable pub eraseOf : ℕ → Bool
+eraseOf flags = eqb (flags / 8 % 2) 1
+
+-- the last method, and the flags with all four bits
 abbrev pub lastMethod : ℕ
 lastMethod = 2
 
 abbrev pub lastFlags : ℕ
-lastFlags = 7
+lastFlags = 15
 
 -- "rows of 5 bytes: kind (0 audio, 1 data) and length in blocks (4 bytes, any value)"
 abbrev pub kindByte : Kind → ℕ
@@ -64,7 +67,7 @@ rows (t ∷ ts) = row t ++ rows ts
 
 -- bytes 0 to 509: "byte 0 is 1", method, flags, count, rows from byte 4 on, zeros
 unfoldable pub orderBody : Order → List ℕ
-orderBody o = 1 ∷ methodByte (o .method) ∷ flagsByte (o .keep) (o .protect) (o .immed) ∷ o .count ∷ rows (o .tracks) ++ replicate 11 0
+orderBody o = 1 ∷ methodByte (o .method) ∷ flagsByte (o .keep) (o .protect) (o .immed) (o .erase) ∷ o .count ∷ rows (o .tracks) ++ replicate 11 0
 
 unfoldable pub orderBytes : Order → List ℕ
 orderBytes o = sealed (orderBody o)
@@ -94,6 +97,7 @@ fieldsOf b =
       keep = keepOf (getD b 2 0);
       protect = protectOf (getD b 2 0);
       immed = immedOf (getD b 2 0);
+      erase = eraseOf (getD b 2 0);
       count = getD b 3 0;
       tracks = tracksOf 99 (drop 4 b);
     }

@@ -6,7 +6,7 @@ use lib.ListN.{length, drop}
 use lib.Dec.{leb, eqb}
 use Rattle.mmc.specs.Bytes.{if}
 use Rattle.mmc.specs.declared.refusals.Refusal.{Refusal}
-use Rattle.mmc.specs.declared.refusals.Refusal.the-variants.{BlockLength, BlockCheck, FieldValue, ReplyForm, Profile, DiscStatus, TrackInformation, MixedOrKept, ShortTrack, NoRoom, ShortBuffer, DriveFailed, JobEnded, NoCueSheet, OutOfRange}
+use Rattle.mmc.specs.declared.refusals.Refusal.the-variants.{BlockLength, BlockCheck, FieldValue, ReplyForm, Profile, DiscStatus, TrackInformation, MixedOrKept, ShortTrack, NoRoom, ShortBuffer, DriveFailed, JobEnded, NoCueSheet, OutOfRange, NotErasable}
 use Rattle.mmc.specs.declared.refusals.Made.{Made}
 use Rattle.mmc.specs.declared.refusals.Made.the-variants as M
 use Rattle.mmc.specs.declared.refusals.Check.{Check}
@@ -34,6 +34,7 @@ numberOf DriveFailed = 12
 numberOf JobEnded = 13
 numberOf NoCueSheet = 14
 numberOf OutOfRange = 15
+numberOf NotErasable = 16
 
 -- what a maker's answer says: how many bytes, or the number
 abbrev pub madeOf : Made → Outcome ℕ

@@ -129,6 +129,7 @@ orderIn b =
       keep = false;
       protect = false;
       immed = false;
+      erase = false;
       count = countIn b;
       tracks = lengthsIn (kindIn (getD b 0 0)) (countIn b) (drop 16 b) ++ replicate (mostTracks - countIn b) noTrack;
     }
@@ -143,7 +144,7 @@ sheetFor o = record { kind = orderKind o; count = o .count; tracks = o .tracks }
 
 -- the SAO order without flags that a sheet is for
 abbrev pub orderFor : Sheet → Order
-orderFor s = record { method = Sao; keep = false; protect = false; immed = false; count = s .count; tracks = s .tracks }
+orderFor s = record { method = Sao; keep = false; protect = false; immed = false; erase = false; count = s .count; tracks = s .tracks }
 
 -- what stands where there is no sheet
 unfoldable pub noSheet : Sheet

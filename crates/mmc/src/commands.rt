@@ -1,10 +1,10 @@
-// The command descriptor blocks: 00h and 03h have six bytes, the others ten. Immed, in 35h and 5Bh, has the
-// drive answer before its work is done.
+// The command descriptor blocks: 00h and 03h have six bytes, A1h twelve, the others ten. Immed, in 35h, 5Bh and A1h,
+// has the drive answer before its work is done.
 ghost use mathlib.Core.Path.{_≡_};
 ghost use mathlib.Core.Bool.{true};
 ghost use Prim.Native.Nat.{_<_};
 ghost use Rattle.mmc.specs.Times.{inRange};
-ghost use Rattle.mmc.specs.Commands.{getConfiguration, readDiscInformation, readTrackInformation, modeSelect, sendCueSheet, twos, writeRange, writeBytes, writeCommand, synchronizeCache, closeTrackSession, testUnitReady, requestSense};
+ghost use Rattle.mmc.specs.Commands.{getConfiguration, readDiscInformation, readTrackInformation, modeSelect, sendCueSheet, twos, writeRange, writeBytes, writeCommand, synchronizeCache, closeTrackSession, testUnitReady, requestSense, blank};
 ghost use Rattle.mmc.specs.Refusals.{pass, Fills};
 use crate::bytes::fill;
 use crate::bytes::flag;
@@ -152,5 +152,14 @@ pub fn request_sense(out: &mut [u8]) -> Made
     ensures { λ r. ⌜ Fills (pass requestSense) r (now (out .entry)) (now (out .exit)) ⌝ }
 {
     let cdb = [0x03u8, 0, 0, 0, 0x12, 0];
+    fill(&cdb, out)
+}
+
+// A1h: makes the disc blank, erasing as little as does (01h). Immed is bit 4 of byte 1.
+pub fn blank(immed: bool, out: &mut [u8]) -> Made
+    ensures { λ r. ⌜ Fills (pass (blank immed)) r (now (out .entry)) (now (out .exit)) ⌝ }
+{
+    let byte_1 = 0x01 + flag(immed, 0x10);
+    let cdb = [0xA1u8, byte_1, 0, 0, 0, 0, 0, 0, 0, 0, 0, 0];
     fill(&cdb, out)
 }

@@ -28,6 +28,7 @@ pub struct Order {
     pub keep: bool,
     pub protect: bool,
     pub immed: bool,
+    pub erase: bool,
     pub count: u8,
     pub tracks: [Track; 99],
 }
@@ -59,6 +60,7 @@ pub fn no_order() -> Order
         keep: false,
         protect: false,
         immed: false,
+        erase: false,
         count: 0,
         tracks: tracks,
     }

@@ -61,10 +61,10 @@ fn kind_byte(k: Kind) -> u8
     }
 }
 
-fn flags_byte(keep: bool, protect: bool, immed: bool) -> u8
-    ensures { λ r. ⌜ r ≡ flagsByte keep protect immed ⌝ }
+fn flags_byte(keep: bool, protect: bool, immed: bool, erase: bool) -> u8
+    ensures { λ r. ⌜ r ≡ flagsByte keep protect immed erase ⌝ }
 {
-    flag(keep, 1) + flag(protect, 2) + flag(immed, 4)
+    flag(keep, 1) + flag(protect, 2) + flag(immed, 4) + flag(erase, 8)
 }
 
 // The track whose row stands at the index at.
@@ -123,6 +123,7 @@ fn fields_of(b: &[u8]) -> Order
         keep: flags % 2 == 1,
         protect: flags / 2 % 2 == 1,
         immed: flags / 4 % 2 == 1,
+        erase: flags / 8 % 2 == 1,
         count: count,
         tracks: tracks,
     }
@@ -144,7 +145,7 @@ fn head_ok(b: &[u8]) -> bool
     if 2 < method {
         return false;
     }
-    if 7 < flags {
+    if 15 < flags {
         return false;
     }
     true
@@ -233,7 +234,7 @@ fn put_body(o: Order, out: &mut [u8])
 {
     let m = o.method;
     let method = method_byte(m);
-    let flags = flags_byte(o.keep, o.protect, o.immed);
+    let flags = flags_byte(o.keep, o.protect, o.immed, o.erase);
     let head = [1u8, method, flags, o.count];
     put(out, 0, &head);
     put_rows(o, out);

@@ -19,6 +19,7 @@ pub enum Refusal {
     JobEnded,
     NoCueSheet,
     OutOfRange,
+    NotErasable,
 }
 
 // What a maker answers: so many bytes stand at the start of the lent buffer, or none was touched.
@@ -53,5 +54,6 @@ pub fn number(r: Refusal) -> u8
         Refusal::JobEnded => 13,
         Refusal::NoCueSheet => 14,
         Refusal::OutOfRange => 15,
+        Refusal::NotErasable => 16,
     }
 }

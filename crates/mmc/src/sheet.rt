@@ -287,6 +287,7 @@ fn order_in(b: &[u8]) -> Order
         keep: false,
         protect: false,
         immed: false,
+        erase: false,
         count: n as u8,
         tracks: tracks,
     }

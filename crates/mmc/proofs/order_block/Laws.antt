@@ -4,13 +4,13 @@ use mathlib.Core.List.{List, [], _∷_, _++_, append-assoc}
 use mathlib.Core.Bool.{Bool, true, false, _&&_}
 use Prim.Native.Nat.{ℕ, zero, suc, _+_, _*_, _-_, _/_, _%_, _≤_}
 use native.Mathlib.Omega.{arith}
-use borrow.Author.Tests.{eqb-true, leb-true}
+use borrow.Author.Tests.{eqb-true, leb-true, le-leb}
 use lib.Dec.{eqb, leb}
 use lib.ListN.{length, take, drop, replicate, length-drop}
 use lib.Seq.{drop-at, take-add, length-take-le}
 use Rattle.mmc.specs.Block.{sealed, checkSum, blockFault}
-use Rattle.mmc.specs.Bytes.{bytes32, be32, allZero}
-use Rattle.mmc.specs.OrderBlock.{orderBlock, methodByte, methodOf, flagsByte, keepOf, protectOf, immedOf, lastMethod, lastFlags, headOk, row, rows, orderBody, orderBytes, kindByte, kindOf, kindsOk, trackOf, tracksOf, fieldsOf, orderOk, readOrder}
+use Rattle.mmc.specs.Bytes.{if, bytes32, be32, allZero}
+use Rattle.mmc.specs.OrderBlock.{orderBlock, methodByte, methodOf, flagsByte, keepOf, protectOf, immedOf, eraseOf, lastMethod, lastFlags, headOk, row, rows, orderBody, orderBytes, kindByte, kindOf, kindsOk, trackOf, tracksOf, fieldsOf, orderOk, readOrder}
 use Rattle.mmc.specs.Order.{validOrder}
 use Rattle.mmc.proofs.order_block.Rows.{body-length, rows-495}
 use Rattle.mmc.proofs.block.Laws.{sealed-ok, sealed-is, fault-length, read-listed, read-passed}
@@ -30,28 +30,33 @@ unfolding methodOf
 method-back Tao = refl
 method-back Sao = refl
 
--- each flag of a byte that holds all three
-flags-back : (k p i : Bool) → (keepOf (flagsByte k p i) ≡ k) × (protectOf (flagsByte k p i) ≡ p) × (immedOf (flagsByte k p i) ≡ i)
-unfolding keepOf protectOf immedOf
-flags-back true true true = (refl, refl, refl)
-flags-back true true false = (refl, refl, refl)
-flags-back true false true = (refl, refl, refl)
-flags-back true false false = (refl, refl, refl)
-flags-back false true true = (refl, refl, refl)
-flags-back false true false = (refl, refl, refl)
-flags-back false false true = (refl, refl, refl)
-flags-back false false false = (refl, refl, refl)
+-- a flag in its place is a bit times the place
+placed : (b : Bool) (n : ℕ) → (if b n 0 ≡ n * if b 1 0) × (if b 1 0 ≤ 1)
+placed true n = (omega arith, omega arith)
+placed false n = (omega arith, omega arith)
+
+-- the lowest bit, and what stands above it
+bit-back : (b : Bool) (n x : ℕ) → n ≡ if b 1 0 + 2 * x → (eqb (n % 2) 1 ≡ b) × (n / 2 ≡ x)
+bit-back true n x h = let m : n % 2 ≡ 1 = omega arith in (rw m, omega arith)
+bit-back false n x h = let m : n % 2 ≡ 0 = omega arith in (rw m, omega arith)
+
+halves : (n : ℕ) → (n / 4 ≡ n / 2 / 2) × (n / 8 ≡ n / 2 / 2 / 2)
+halves n = (omega arith, omega arith)
+
+-- each flag of a byte that holds all four
+flags-back : (k p i e : Bool) → (keepOf (flagsByte k p i e) ≡ k) × (protectOf (flagsByte k p i e) ≡ p) × (immedOf (flagsByte k p i e) ≡ i) × (eraseOf (flagsByte k p i e) ≡ e)
+unfolding keepOf protectOf immedOf eraseOf
+flags-back k p i e =
+    let n : ℕ = flagsByte k p i e in
+    let k' = bit-back k n (if p 1 0 + 2 * (if i 1 0 + 2 * if e 1 0)) (omega (arith, placed p 2, placed i 4, placed e 8)) in
+    let p' = bit-back p (n / 2) (if i 1 0 + 2 * if e 1 0) (k' .1) in
+    let i' = bit-back i (n / 2 / 2) (if e 1 0) (p' .1) in
+    let e' = bit-back e (n / 2 / 2 / 2) 0 (omega (arith, i' .1)) in
+    (k' .0, p' .0, rw (halves n .0) (i' .0), rw (halves n .1) (e' .0))
 
 -- they are listed
-flags-small : (k p i : Bool) → leb (flagsByte k p i) lastFlags ≡ true
-flags-small true true true = refl
-flags-small true true false = refl
-flags-small true false true = refl
-flags-small true false false = refl
-flags-small false true true = refl
-flags-small false true false = refl
-flags-small false false true = refl
-flags-small false false false = refl
+flags-small : (k p i e : Bool) → leb (flagsByte k p i e) lastFlags ≡ true
+flags-small k p i e = le-leb (flagsByte k p i e) lastFlags (omega (arith, placed k 1, placed p 2, placed i 4, placed e 8))
 
 head-back : (m : Method) (f n : ℕ) (t : List ℕ) → leb f lastFlags ≡ true → headOk (1 ∷ methodByte m ∷ f ∷ n ∷ t) ≡ true
 unfolding headOk
@@ -65,17 +70,20 @@ method-is (suc zero) h k = refl
 method-is (suc (suc zero)) h k = refl
 method-is (suc (suc (suc n))) h k = absurd (omega arith)
 
-flags-is : (n : ℕ) → n ≤ 7 → flagsByte (keepOf n) (protectOf n) (immedOf n) ≡ n
-unfolding keepOf protectOf immedOf
-flags-is zero h = refl
-flags-is (suc zero) h = refl
-flags-is (suc (suc zero)) h = refl
-flags-is (suc (suc (suc zero))) h = refl
-flags-is (suc (suc (suc (suc zero)))) h = refl
-flags-is (suc (suc (suc (suc (suc zero))))) h = refl
-flags-is (suc (suc (suc (suc (suc (suc zero)))))) h = refl
-flags-is (suc (suc (suc (suc (suc (suc (suc zero))))))) h = refl
-flags-is (suc (suc (suc (suc (suc (suc (suc (suc n)))))))) h = absurd (omega arith)
+bit-is : (n m : ℕ) → n ≤ 1 → if (eqb n 1) m 0 ≡ m * n
+bit-is zero m h = omega arith
+bit-is (suc zero) m h = omega arith
+bit-is (suc (suc n)) m h = absurd (omega arith)
+
+flags-is : (n : ℕ) → n ≤ 15 → flagsByte (keepOf n) (protectOf n) (immedOf n) (eraseOf n) ≡ n
+unfolding keepOf protectOf immedOf eraseOf
+flags-is n h =
+    let z : n / 2 / 2 / 2 / 2 ≡ 0 = omega arith in
+    let k : if (keepOf n) 1 0 ≡ 1 * (n % 2) = bit-is (n % 2) 1 (omega arith) in
+    let p : if (protectOf n) 2 0 ≡ 2 * (n / 2 % 2) = bit-is (n / 2 % 2) 2 (omega arith) in
+    let i : if (immedOf n) 4 0 ≡ 4 * (n / 2 / 2 % 2) = rw (halves n .0) (bit-is (n / 2 / 2 % 2) 4 (omega arith)) in
+    let e : if (eraseOf n) 8 0 ≡ 8 * (n / 2 / 2 / 2 % 2) = rw (halves n .1) (bit-is (n / 2 / 2 / 2 % 2) 8 (omega arith)) in
+    omega arith
 
 -- ---- the rows read back
 
@@ -107,17 +115,17 @@ module _ (o : Order) (z : length (o .tracks) ≡ 99) where
   tail = replicate 11 0 ++ checkSum (orderBody o) / 256 ∷ checkSum (orderBody o) % 256 ∷ []
 
   -- the block from its rows on
-  laid : orderBytes o ≡ 1 ∷ methodByte (o .method) ∷ flagsByte (o .keep) (o .protect) (o .immed) ∷ o .count ∷ (rows (o .tracks) ++ tail)
+  laid : orderBytes o ≡ 1 ∷ methodByte (o .method) ∷ flagsByte (o .keep) (o .protect) (o .immed) (o .erase) ∷ o .count ∷ (rows (o .tracks) ++ tail)
   unfolding orderBytes sealed orderBody tail
-  laid = ap (λ (t : List ℕ). 1 ∷ methodByte (o .method) ∷ flagsByte (o .keep) (o .protect) (o .immed) ∷ o .count ∷ t) (append-assoc (rows (o .tracks)) (replicate 11 0) (checkSum (orderBody o) / 256 ∷ checkSum (orderBody o) % 256 ∷ []))
+  laid = ap (λ (t : List ℕ). 1 ∷ methodByte (o .method) ∷ flagsByte (o .keep) (o .protect) (o .immed) (o .erase) ∷ o .count ∷ t) (append-assoc (rows (o .tracks)) (replicate 11 0) (checkSum (orderBody o) / 256 ∷ checkSum (orderBody o) % 256 ∷ []))
 
   fields-back : fieldsOf (orderBytes o) ≡ o
   unfolding fieldsOf
   fields-back =
       let r : List ℕ = rows (o .tracks) ++ tail in
       let e : tracksOf 99 r ≡ o .tracks = ap (λ (n : ℕ). tracksOf n r) (sym z) ∙ tracks-back (o .tracks) tail in
-      let f = flags-back (o .keep) (o .protect) (o .immed) in
-      rw (laid, e, method-back (o .method), f .0, f .1, f .2)
+      let f = flags-back (o .keep) (o .protect) (o .immed) (o .erase) in
+      rw (laid, e, method-back (o .method), f .0, f .1, f .2, f .3)
 
   rest-zero : allZero (take 11 (drop 499 (orderBytes o))) ≡ true
   unfolding allZero tail
@@ -131,7 +139,7 @@ module _ (o : Order) (z : length (o .tracks) ≡ 99) where
   pub read-back : validOrder o ≡ true → readOrder (orderBytes o) ≡ pass o
   unfolding readOrder orderOk
   read-back v =
-      let head : headOk (orderBytes o) ≡ true = ap headOk laid ∙ head-back (o .method) _ (o .count) _ (flags-small (o .keep) (o .protect) (o .immed)) in
+      let head : headOk (orderBytes o) ≡ true = ap headOk laid ∙ head-back (o .method) _ (o .count) _ (flags-small (o .keep) (o .protect) (o .immed) (o .erase)) in
       let kinds : kindsOk 99 (drop 4 (orderBytes o)) ≡ true = rw (laid, ← z) (kinds-back (o .tracks) tail) in
       simp (head, kinds, fields-back, v, rest-zero) (read-listed (orderBytes o) true o no-fault refl)
 

@@ -102,10 +102,10 @@ module _ (o : Order) (h : length (o .tracks) ≡ 99) where
 
   -- head, rows and zeros, put one after the other
   body-put : (d : List ℕ)
-      → putAt (putAt (putAt d 0 (1 ∷ methodByte (o .method) ∷ flagsByte (o .keep) (o .protect) (o .immed) ∷ o .count ∷ [])) 4 (rows (o .tracks))) 499 (replicate 11 0) ≡ orderBody o ++ drop 510 d
+      → putAt (putAt (putAt d 0 (1 ∷ methodByte (o .method) ∷ flagsByte (o .keep) (o .protect) (o .immed) (o .erase) ∷ o .count ∷ [])) 4 (rows (o .tracks))) 499 (replicate 11 0) ≡ orderBody o ++ drop 510 d
   unfolding orderBody
   body-put d =
-      let head : List ℕ = 1 ∷ methodByte (o .method) ∷ flagsByte (o .keep) (o .protect) (o .immed) ∷ o .count ∷ [] in
+      let head : List ℕ = 1 ∷ methodByte (o .method) ∷ flagsByte (o .keep) (o .protect) (o .immed) (o .erase) ∷ o .count ∷ [] in
       let r : List ℕ = rows (o .tracks) in
       let n : 4 + length r ≡ 499 = omega (arith, rows-495) in
       ap (λ (t : List ℕ). putAt (putAt t 4 r) 499 (replicate 11 0)) (put-next [] d head 0 refl)
@@ -113,7 +113,7 @@ module _ (o : Order) (h : length (o .tracks) ≡ 99) where
       ∙ put-next (head ++ r) d (replicate 11 0) 499 (omega (arith, rows-495))
 
   -- as the code puts them
-  pub body-steps : (d : List ℕ) {d₁ d₂ d₃ : List ℕ} {m f : ℕ} → m ≡ methodByte (o .method) → f ≡ flagsByte (o .keep) (o .protect) (o .immed)
+  pub body-steps : (d : List ℕ) {d₁ d₂ d₃ : List ℕ} {m f : ℕ} → m ≡ methodByte (o .method) → f ≡ flagsByte (o .keep) (o .protect) (o .immed) (o .erase)
       → d₁ ≡ putAt d 0 (1 ∷ m ∷ f ∷ o .count ∷ []) → d₂ ≡ putAt d₁ 4 (rows (o .tracks)) → d₃ ≡ putAt d₂ 499 (replicate 11 0) → d₃ ≡ orderBody o ++ drop 510 d
   body-steps d em ef p1 p2 p3 = cc (body-put d)
 

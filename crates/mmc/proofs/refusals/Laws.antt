@@ -6,7 +6,7 @@ use Prim.Native.Nat.{ℕ}
 use lib.Dec.{eqb}
 use Rattle.mmc.specs.Refusals.{Outcome, refuse, numberOf, answerOf, bufferOf, Fills}
 use Rattle.mmc.specs.declared.refusals.Refusal.{Refusal}
-use Rattle.mmc.specs.declared.refusals.Refusal.the-variants.{BlockLength, BlockCheck, FieldValue, ReplyForm, Profile, DiscStatus, TrackInformation, MixedOrKept, ShortTrack, NoRoom, ShortBuffer, DriveFailed, JobEnded, NoCueSheet, OutOfRange}
+use Rattle.mmc.specs.declared.refusals.Refusal.the-variants.{BlockLength, BlockCheck, FieldValue, ReplyForm, Profile, DiscStatus, TrackInformation, MixedOrKept, ShortTrack, NoRoom, ShortBuffer, DriveFailed, JobEnded, NoCueSheet, OutOfRange, NotErasable}
 use Rattle.mmc.specs.declared.refusals.Made.{Made}
 use Rattle.mmc.specs.declared.refusals.Made.the-variants as M
 
@@ -26,6 +26,7 @@ numbered DriveFailed = refl
 numbered JobEnded = refl
 numbered NoCueSheet = refl
 numbered OutOfRange = refl
+numbered NotErasable = refl
 
 -- what a maker promises of some bytes, it promises of all that are equal
 pub fills-of : {x y : Outcome (List ℕ)} {r : Made} {before after : List ℕ} → y ≡ x → Fills x r before after → Fills y r before after

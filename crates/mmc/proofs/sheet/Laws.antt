@@ -91,7 +91,7 @@ kind-back Data = refl
 
 -- the order without its flags: all that a sheet holds of it
 abbrev pub plain : Order → Order
-plain o = record { method = Sao; keep = false; protect = false; immed = false; count = o .count; tracks = o .tracks }
+plain o = record { method = Sao; keep = false; protect = false; immed = false; erase = false; count = o .count; tracks = o .tracks }
 
 module _ (o : Order) (z : length (o .tracks) ≡ 99) (f : sheetFault o ≡ 0) where
   s : Sheeted o

@@ -1,5 +1,5 @@
 use borrow.Author.Needs.{needs}
-use Rattle.mmc.specs.OrderBlock.{fieldsOf, keepOf, protectOf, immedOf}
+use Rattle.mmc.specs.OrderBlock.{fieldsOf, keepOf, protectOf, immedOf, eraseOf}
 use Rattle.mmc.proofs.order_block.fields_of.Statement.{statement}
 use Rattle.mmc.proofs.order_block.fields_of.Tie as tie
 
@@ -19,7 +19,7 @@ tracks-of-requires : tie.Need-tracks-of-requires
 tracks-of-requires c κs = search needs
 
 returns : tie.Need-returns
-unfolding fieldsOf keepOf protectOf immedOf
+unfolding fieldsOf keepOf protectOf immedOf eraseOf
 returns c = simp (c .before .before .before .method-of .ensures, c .tracks-of .ensures)
 
 pub fields-of-spec : {M : Type 1} → statement M
