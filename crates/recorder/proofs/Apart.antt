@@ -13,7 +13,7 @@ use Rattle.mmc.specs.declared.units.FrameCount.{FrameCount}
 use Rattle.mmc.specs.declared.order.Order.{Order}
 use Rattle.mmc.specs.declared.order.Method.{Method}
 use Rattle.recorder.specs.declared.script.Op.{Op}
-use Rattle.recorder.specs.declared.script.Op.the-variants.{GetConfiguration, ReadDiscInformation, ReadTrackInformation, ModeSelect, SendCueSheet, Write, SynchronizeCache, CloseTrack, CloseSession, TestUnitReady, RequestSense}
+use Rattle.recorder.specs.declared.script.Op.the-variants.{GetConfiguration, ReadDiscInformation, ReadTrackInformation, ModeSelect, SendCueSheet, Write, SynchronizeCache, CloseTrack, CloseSession, Blank, TestUnitReady, RequestSense}
 use Rattle.recorder.specs.declared.replies.TrackInformation.{TrackInformation}
 use Rattle.recorder.specs.declared.replies.Reading.{Reading}
 use Rattle.recorder.specs.declared.exchanges.Seen.{Seen}
@@ -31,14 +31,15 @@ use Rattle.recorder.proofs.Rulings.{unrefused-last}
 pub record Passed (o : Order) (t : ℕ) (v : Seen) (i : TrackInformation) : Type 0 where
   pub usable : unusable (o .method) (v .at) i ≡ false
   pub fitting : not (fits (o .method) (still o t) i) ≡ false
-  pub opening : eqb t 1 ≡ true → Clear (openingTests o t v i)
+  pub opening : eqb t 1 ≡ true → o .erase ≡ false → Clear (openingTests o t v i)
 
 pub passed : (o : Order) (t : ℕ) (v : Seen) (i : TrackInformation) → Clear (trackTests o t v i) → Passed o t v i
-passed o t v i c = go (eqb t 1) refl c
+passed o t v i c = go (eqb t 1) (o .erase) refl refl c
   where
-    go : (b : Bool) → eqb t 1 ≡ b → Clear (if b (openingTests o t v i) (laterTests o t v i)) → Passed o t v i
-    go true e c = record { usable = c .1 .1 .0; fitting = c .1 .1 .1 .1 .1 .0; opening = λ q. c }
-    go false e c = record { usable = c .0; fitting = c .1 .0; opening = λ q. absurd (false-true (sym e ∙ q)) }
+    go : (a b : Bool) → eqb t 1 ≡ a → o .erase ≡ b → Clear (if (a && not b) (openingTests o t v i) (laterTests o t v i)) → Passed o t v i
+    go true false e f c = record { usable = c .1 .1 .0; fitting = c .1 .1 .1 .1 .1 .0; opening = λ q h. c }
+    go true true e f c = record { usable = c .0; fitting = c .1 .0; opening = λ q h. absurd (false-true (sym h ∙ f)) }
+    go false b e f c = record { usable = c .0; fitting = c .1 .0; opening = λ q h. absurd (false-true (sym e ∙ q)) }
 
 -- the next block never goes back
 start-above : (m : Method) (at : FrameCount) (i : TrackInformation) → unusable m at i ≡ false → at .0 ≤ startAt m at i .0
@@ -59,6 +60,7 @@ past-count (Write t f k) at = refl
 past-count (SynchronizeCache t) at = omega arith
 past-count (CloseTrack t) at = omega arith
 past-count CloseSession at = omega arith
+past-count Blank at = omega arith
 past-count TestUnitReady at = omega arith
 past-count RequestSense at = omega arith
 
@@ -86,7 +88,7 @@ module _ (o : Order) (v : Seen) (l : List ℕ) (u : Under (v .at .0) l) where
   laid-by x g r profile j = nothing-put [] (v .at .0) refl (omega arith)
   laid-by x g r status j = nothing-put [] (v .at .0) refl (omega arith)
   laid-by x g r (information {t = t} {i = i}) j =
-      nothing-put [] (startAt (o .method) (v .at) i .0) refl (start-above (o .method) (v .at) i (passed o (t .0) v i (passed-clear (trackTests o (t .0) v i) j) .usable))
+      nothing-put [] (startAt (o .method) (v .at) i .0) refl (start-above (o .method) (v .at) i (passed o (t .0) v i (passed-clear (trackTests o (t .0) v i) [] j) .usable))
   laid-by x g r indication j = nothing-put [] (v .at .0) refl (omega arith)
   laid-by x g r ready j = nothing-put [] (v .at .0) refl (omega arith)
   laid-by x g r (unread q n) j = subst (λ (k : ℕ). Under k (l ++ upward (v .at .0) (countIn x))) (sym (past-count x (v .at))) (under-upward (v .at .0) (countIn x) l u)

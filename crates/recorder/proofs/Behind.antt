@@ -16,7 +16,7 @@ use Rattle.mmc.specs.declared.order.Track.{Track}
 use Rattle.mmc.specs.declared.order.Method.{Method}
 use Rattle.mmc.specs.declared.order.Method.the-variants.{Tao, Sao}
 use Rattle.recorder.specs.declared.script.Op.{Op}
-use Rattle.recorder.specs.declared.script.Op.the-variants.{GetConfiguration, ReadDiscInformation, ReadTrackInformation, ModeSelect, SendCueSheet, Write, SynchronizeCache, CloseTrack, CloseSession, TestUnitReady, RequestSense}
+use Rattle.recorder.specs.declared.script.Op.the-variants.{GetConfiguration, ReadDiscInformation, ReadTrackInformation, ModeSelect, SendCueSheet, Write, SynchronizeCache, CloseTrack, CloseSession, Blank, TestUnitReady, RequestSense}
 use Rattle.recorder.specs.declared.places.Following.{Following}
 use Rattle.recorder.specs.declared.places.Following.the-variants.{Next as Then, Nothing}
 use Rattle.recorder.specs.Script.{write, portion, writesFor, writes, writesFrom, beforeTracks, trackBy, eachTrack, script}
@@ -58,7 +58,7 @@ abbrev synchronizedBy : Method → Order → ℕ → List Op
 synchronizedBy Tao o t = CloseTrack (record { 0 = t }) ∷ tracksFrom o t
 synchronizedBy Sao o t = []
 
--- behind an operation of the script; a poll is none
+-- behind an operation of the script, or A1h; a poll is none
 abbrev pub behind : Order → Op → List Op
 behind o GetConfiguration = ReadDiscInformation ∷ beforeTracks o (tracksFrom o 0)
 behind o ReadDiscInformation = beforeTracks o (tracksFrom o 0)
@@ -69,6 +69,7 @@ behind o (Write t f k) = piece o (t .0) (f .0 + k .0)
 behind o (SynchronizeCache t) = synchronizedBy (o .method) o (t .0)
 behind o (CloseTrack t) = tracksFrom o (t .0)
 behind o CloseSession = []
+behind o Blank = ReadDiscInformation ∷ beforeTracks o (tracksFrom o 0)
 behind o TestUnitReady = []
 behind o RequestSense = []
 

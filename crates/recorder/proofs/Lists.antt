@@ -12,9 +12,10 @@ use Rattle.mmc.specs.Bytes.{if}
 use Rattle.mmc.specs.Times.{leadFrames, framesTo, addressAt}
 use Rattle.mmc.specs.declared.units.FrameCount.{FrameCount}
 use Rattle.recorder.specs.Answers.{Why, because}
+use Rattle.recorder.specs.declared.script.Op.{Op}
 use Rattle.recorder.specs.Script.{Block, blocks, gather}
 use Rattle.recorder.specs.Exchanges.{upward}
-use Rattle.recorder.specs.Rules.{onward, refused, Test, tested, none, found, refusedBy}
+use Rattle.recorder.specs.Rules.{Judgement, onward, refused, Test, tested, none, found, refusedBy}
 
 -- ---- tests
 
@@ -54,17 +55,26 @@ abbrev pub Clear : List Test → Type 0
 Clear [] = Unit {0}
 Clear (t ∷ ts) = (t .applies ≡ false) × Clear ts
 
-pub passed-clear : (ts : List Test) → refusedBy (tested ts) ≡ none → Clear ts
-passed-clear [] e = tt
-passed-clear (t ∷ ts) e = go (t .applies) refl e (λ q. passed-clear ts q)
+pub passed-clear : (ts : List Test) (xs : List Op) → refusedBy (tested ts xs) ≡ none → Clear ts
+passed-clear [] xs e = tt
+passed-clear (t ∷ ts) xs e = go (t .applies) refl e (λ q. passed-clear ts xs q)
   where
-    go : (b : Bool) → t .applies ≡ b → refusedBy (if b (refused (because (t .number))) (tested ts)) ≡ none → (refusedBy (tested ts) ≡ none → Clear ts) → Clear (t ∷ ts)
+    go : (b : Bool) → t .applies ≡ b → refusedBy (if b (refused (because (t .number))) (tested ts xs)) ≡ none → (refusedBy (tested ts xs) ≡ none → Clear ts) → Clear (t ∷ ts)
     go true q e c = absurd (none-found _ (sym e))
     go false q e c = (q, c e)
 
-pub clear-passes : (ts : List Test) → Clear ts → tested ts ≡ onward []
-clear-passes [] c = refl
-clear-passes (t ∷ ts) c = if-no _ _ (c .0) ∙ clear-passes ts (c .1)
+pub clear-passes : (ts : List Test) (xs : List Op) → Clear ts → tested ts xs ≡ onward xs
+clear-passes [] xs c = refl
+clear-passes (t ∷ ts) xs c = if-no _ _ (c .0) ∙ clear-passes ts xs (c .1)
+
+-- they pass, and none applies, or one of them refuses
+pub tested-by : (P : Judgement → Type 0) (ts : List Test) (xs : List Op) → (Clear ts → P (onward xs)) → ((k : ℕ) → P (refused (because k))) → P (tested ts xs)
+tested-by P [] xs p q = p tt
+tested-by P (t ∷ ts) xs p q = go (t .applies) refl (λ e. tested-by P ts xs (λ c. p (e, c)) q)
+  where
+    go : (b : Bool) → t .applies ≡ b → (t .applies ≡ false → P (tested ts xs)) → P (if b (refused (because (t .number))) (tested ts xs))
+    go true e h = q (t .number)
+    go false e h = h e
 
 -- ---- gathering
 

@@ -9,14 +9,14 @@ use Rattle.mmc.specs.Bytes.{if}
 use Rattle.mmc.specs.declared.units.TrackNumber.{TrackNumber}
 use Rattle.mmc.specs.declared.order.Order.{Order}
 use Rattle.recorder.specs.declared.script.Op.{Op}
-use Rattle.recorder.specs.declared.script.Op.the-variants.{GetConfiguration, ReadDiscInformation, ReadTrackInformation, TestUnitReady, RequestSense}
-use Rattle.recorder.specs.Script.{isPoll, polls, gather, blocksIn, closingIn, script}
+use Rattle.recorder.specs.declared.script.Op.the-variants.{GetConfiguration, ReadDiscInformation, ReadTrackInformation, Blank, TestUnitReady, RequestSense}
+use Rattle.recorder.specs.Script.{isPoll, polls, erasing, gather, blocksIn, closingIn, script}
 use Rattle.recorder.specs.Exchanges.{Exchange, gathered, doneIn, polling}
 use Rattle.recorder.specs.Rules.{Judgement, move, judged, left}
 use Rattle.recorder.proofs.Lists.{false-true, gather-append, nothing-after}
-use Rattle.recorder.proofs.Turns.{made, Played, nothing, then, Asks, a46, a51, a52, a03, Idle, not-good, only-asked, Turn, repeats, refuses, works, polls-begin, asks, polls-on, polls-end, turn}
+use Rattle.recorder.proofs.Turns.{made, Played, nothing, then, Asks, a46, a51, a52, a03, Idle, not-good, only-asked, Turn, repeats, refuses, works, polls-begin, erases-first, asks, polls-on, polls-end, turn}
 
--- ---- what is kept: a part that neither the asking operations nor the polls have
+-- ---- what is kept: a part that neither the asking operations nor the polls nor an erasing have
 
 pub record Ignores {B : Type 0} (g : Op → List B) : Type 0 where
   pub g46 : g GetConfiguration ≡ []
@@ -24,6 +24,7 @@ pub record Ignores {B : Type 0} (g : Op → List B) : Type 0 where
   pub g52 : (t : TrackNumber) → g (ReadTrackInformation t) ≡ []
   pub g00 : g TestUnitReady ≡ []
   pub g03 : g RequestSense ≡ []
+  pub gA1 : g Blank ≡ []
 
 module _ {B : Type 0} (g : Op → List B) (i : Ignores g) where
   ignored : {x : Op} → Asks x → g x ≡ []
@@ -45,6 +46,10 @@ module _ {B : Type 0} (g : Op → List B) (i : Ignores g) where
   polls-none : (l : List Op) → gather g (polls ++ l) ≡ gather g l
   polls-none l = ap (λ (m : List B). m ++ (g RequestSense ++ gather g l)) (i .g00) ∙ ap (λ (m : List B). m ++ gather g l) (i .g03)
 
+  -- nor has an erasing
+  erasing-none : (l : List Op) → gather g (erasing ++ l) ≡ gather g l
+  erasing-none l = ap (λ (m : List B). m ++ (g ReadDiscInformation ++ gather g l)) (i .gA1) ∙ ap (λ (m : List B). m ++ gather g l) (i .g51)
+
   -- the operation is answered, and nothing that counts comes in front
   answered : (before : List B) (x : Op) (b : Bool) (l m : List Op) → if b (g x) [] ≡ g x → gather g m ≡ gather g l → (before ++ if b (g x) []) ++ gather g m ≡ before ++ gather g (x ∷ l)
   answered before x b l m e f =
@@ -57,6 +62,7 @@ module _ {B : Type 0} (g : Op → List B) (i : Ignores g) where
   kept-turn before x l p b q j (refuses k) = ap (λ (m : List B). m ++ gather g (x ∷ l)) (nothing-after before (if b (g x) []) (idle-done x b k))
   kept-turn before x l p b q j (works n) = answered before x true l l refl refl
   kept-turn before x l p b q j (polls-begin n) = answered before x true l (polls ++ l) refl (polls-none l)
+  kept-turn before x l p b q j erases-first = answered before ReadDiscInformation true l (erasing ++ l) refl (erasing-none l)
   kept-turn before x l p b q j asks = answered before TestUnitReady b l l (no-part TestUnitReady b (i .g00)) refl
   kept-turn before x l p b q j polls-on = answered before RequestSense true l (polls ++ l) refl (polls-none l)
   kept-turn before x l p b q j polls-end = answered before RequestSense true l l refl refl
@@ -71,10 +77,10 @@ module _ {B : Type 0} (g : Op → List B) (i : Ignores g) where
       kept o before p
 
 pub blocks-ignore : Ignores blocksIn
-blocks-ignore = record { g46 = refl; g51 = refl; g52 = λ t. refl; g00 = refl; g03 = refl }
+blocks-ignore = record { g46 = refl; g51 = refl; g52 = λ t. refl; g00 = refl; g03 = refl; gA1 = refl }
 
 pub closings-ignore : Ignores closingIn
-closings-ignore = record { g46 = refl; g51 = refl; g52 = λ t. refl; g00 = refl; g03 = refl }
+closings-ignore = record { g46 = refl; g51 = refl; g52 = λ t. refl; g00 = refl; g03 = refl; gA1 = refl }
 
 -- ---- a part of the script: no poll, and each operation is a closing command, or comes before one
 
@@ -117,6 +123,7 @@ shape-turn p b q x l j (works n) (hearing z) = absurd (false-true (sym n))
 shape-turn p b q x l j (polls-begin n) (working z) = asking (z .1 .1)
 shape-turn p b q x l j (polls-begin n) (asking z) = absurd (false-true (sym n))
 shape-turn p b q x l j (polls-begin n) (hearing z) = absurd (false-true (sym n))
+shape-turn p b q x l j erases-first (working z) = working (scripted-before erasing l (refl, (refl, tt)) (z .0) (z .1 .1))
 shape-turn p b q x l j asks (working z) = absurd (false-true (sym (z .1 .0)))
 shape-turn p b q x l j asks (asking z) = hearing z
 shape-turn p b q x l j polls-on (working z) = absurd (false-true (sym (z .1 .0)))

@@ -14,7 +14,7 @@ use Rattle.recorder.specs.Exchanges.{Exchange, recorded, closed, polling
 use Rattle.recorder.specs.Rules.{Judgement, move, judged, left, Found, none, found, orElse, refusedBy, firstRefused, answerTo, ruled}
 use Rattle.recorder.specs.History.{Each, Unskipped}
 use Rattle.recorder.proofs.Lists.{clash, false-true, none-found}
-use Rattle.recorder.proofs.Turns.{made, Played, nothing, then, Turn, repeats, refuses, works, polls-begin, asks, polls-on, polls-end, turn}
+use Rattle.recorder.proofs.Turns.{made, Played, nothing, then, Turn, repeats, refuses, works, polls-begin, erases-first, asks, polls-on, polls-end, turn}
 use Rattle.recorder.proofs.Plans.{kept, blocks-ignore, closings-ignore, Shape, working, asking, hearing, shape}
 use Rattle.recorder.proofs.Scripts.{script-blocks, scripted}
 
@@ -37,6 +37,7 @@ held-turn p b q x l j w (repeats n) e = tt
 held-turn p b q x l j w (refuses k) e = tt
 held-turn p b q x l j w (works n) e = absurd (none-found w e)
 held-turn p b q x l j w (polls-begin n) e = tt
+held-turn p b q x l j w erases-first e = tt
 held-turn p b q x l j w asks e = absurd (none-found w e)
 held-turn p b q x l j w polls-on e = tt
 held-turn p b q x l j w polls-end e = absurd (none-found w e)

@@ -1,8 +1,10 @@
 -- Laws of the script: its length, its blocks, and that each of its operations is a closing command or comes before one.
 use mathlib.Core.Path.{_≡_, refl, sym, ap, _∙_}
+use mathlib.Core.Bool.{Bool, false, _||_}
 use mathlib.Core.List.{List, [], _∷_, _++_}
 use Prim.Native.Nat.{ℕ, zero, suc, _+_, _-_, _*_, _≤_}
 use native.Mathlib.Omega.{arith}
+use lib.Dec.{eqb}
 use lib.ListN.{length, length-append}
 use Rattle.mmc.specs.Order.{tracksIn}
 use Rattle.mmc.specs.Times.{leadFrames}
@@ -12,13 +14,13 @@ use Rattle.mmc.specs.declared.order.Method.{Method}
 use Rattle.mmc.specs.declared.order.Method.the-variants.{Tao, Sao}
 use Rattle.recorder.specs.declared.script.Op.{Op}
 use Rattle.recorder.specs.declared.script.Op.the-variants.{GetConfiguration, ReadDiscInformation, ReadTrackInformation, ModeSelect, SendCueSheet, SynchronizeCache, CloseTrack}
-use Rattle.recorder.specs.Script.{gather, portion, writesFor, writes, writesFrom, eachTrack, script, writesIn, expectedBy, expected, Block, blocks, blocksFrom, ordered, blocksIn}
+use Rattle.recorder.specs.Script.{code, isErasing, gather, portion, writesFor, writes, writesFrom, beforeTracks, eachTrack, script, writesIn, expectedBy, expected, Block, blocks, blocksFrom, ordered, blocksIn}
 use Rattle.recorder.proofs.Lists.{gather-append, blocks-split}
 use Rattle.recorder.proofs.Plans.{Unclosed, Scripted, Calm, scripted-before}
 
 -- the order with a method: its own gives it back
 abbrev pub by : Order → Method → Order
-by o m = record { method = m; keep = o .keep; protect = o .protect; immed = o .immed; count = o .count; tracks = o .tracks }
+by o m = record { method = m; keep = o .keep; protect = o .protect; immed = o .immed; erase = o .erase; count = o .count; tracks = o .tracks }
 
 -- ---- length
 
@@ -90,6 +92,39 @@ script-blocks o = go (o .method)
     go : (m : Method) → gather blocksIn (script (by o m)) ≡ ordered o
     go Tao = each-blocks Tao o 0 (tracksIn o)
     go Sao = part (writesFrom 0 leadFrames 0) (eachTrack (by o Sao) 0 (tracksIn o)) [] (pause-blocks leadFrames 0 (writesFor (leadFrames - 0))) ∙ each-blocks Sao o 0 (tracksIn o)
+
+-- ---- no 51h and no A1h but the opening's
+
+abbrev pub isOfDisc : Op → Bool
+isOfDisc x = eqb (code x) 0x51 || isErasing x
+
+abbrev pub Past : List Op → Type 0
+Past [] = Unit {0}
+Past (x ∷ l) = (isOfDisc x ≡ false) × Past l
+
+past-before : (xs l : List Op) → Past xs → Past l → Past (xs ++ l)
+past-before [] l p q = q
+past-before (x ∷ xs) l p q = (p .0, past-before xs l (p .1) q)
+
+writes-past : (t l f k : ℕ) → Past (writes t l f k)
+writes-past t l f zero = tt
+writes-past t l f (suc k) = (refl, writes-past t l (f + portion l f) k)
+
+track-past : (t l : ℕ) (after : List Op) → Past after → Past (writesFrom t l 0 ++ after)
+track-past t l after p = past-before (writesFrom t l 0) after (writes-past t l 0 (writesFor (l - 0))) p
+
+each-past : (m : Method) (o : Order) (t : ℕ) (xs : List Track) → Past (eachTrack (by o m) t xs)
+each-past Tao o t [] = (refl, tt)
+each-past Sao o t [] = (refl, tt)
+each-past Tao o t (x ∷ xs) = (refl, (refl, track-past (suc t) (x .length .0) _ (refl, (refl, each-past Tao o (suc t) xs))))
+each-past Sao o t (x ∷ xs) = track-past (suc t) (x .length .0) _ (each-past Sao o (suc t) xs)
+
+pub script-past : (o : Order) → Past (beforeTracks o (eachTrack o 0 (tracksIn o)))
+script-past o = go (o .method)
+  where
+    go : (m : Method) → Past (beforeTracks (by o m) (eachTrack (by o m) 0 (tracksIn o)))
+    go Tao = each-past Tao o 0 (tracksIn o)
+    go Sao = (refl, (refl, (refl, track-past 0 leadFrames (eachTrack (by o Sao) 0 (tracksIn o)) (each-past Sao o 0 (tracksIn o)))))
 
 -- ---- closing commands, and no polls
 

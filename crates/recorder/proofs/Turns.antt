@@ -12,17 +12,19 @@ use Rattle.mmc.specs.declared.units.TrackNumber.{TrackNumber}
 use Rattle.mmc.specs.declared.order.Order.{Order}
 use Rattle.mmc.specs.declared.order.Method.{Method}
 use Rattle.recorder.specs.declared.script.Op.{Op}
-use Rattle.recorder.specs.declared.script.Op.the-variants.{GetConfiguration, ReadDiscInformation, ReadTrackInformation, ModeSelect, SendCueSheet, Write, SynchronizeCache, CloseTrack, CloseSession, TestUnitReady, RequestSense}
+use Rattle.recorder.specs.declared.script.Op.the-variants.{GetConfiguration, ReadDiscInformation, ReadTrackInformation, ModeSelect, SendCueSheet, Write, SynchronizeCache, CloseTrack, CloseSession, Blank, TestUnitReady, RequestSense}
 use Rattle.recorder.specs.declared.replies.Sense.{Sense}
+use Rattle.recorder.specs.declared.replies.DiscInformation.{DiscInformation}
 use Rattle.recorder.specs.declared.replies.TrackInformation.{TrackInformation}
 use Rattle.recorder.specs.declared.replies.Reading.{Reading}
-use Rattle.recorder.specs.declared.replies.Reading.the-variants.{Busy, NotReady, Failed, Malformed, Profile, Status, Information, ProgressIndication, Unread}
+use Rattle.recorder.specs.declared.replies.Reading.the-variants.{Busy, NotReady, Failed, Malformed, Profile, Disc, Information, ProgressIndication, Unread}
 use Rattle.recorder.specs.declared.exchanges.Seen.{Seen}
 use Rattle.recorder.specs.Answers.{Why, because}
-use Rattle.recorder.specs.Replies.{senseOf, isBusy, readFailed, isUnready, readUnready, wholeProfile, readProfile, wholeDisc, readStatus, wholeInformation, readInformation, readProgress, readGood, failedBy, reading, ofProgress}
-use Rattle.recorder.specs.Script.{code, isClosing, asksReady, isPoll, isPolled, polls}
-use Rattle.recorder.specs.Exchanges.{Exchange, wasReady, polling, progress, see, seen}
-use Rattle.recorder.specs.Rules.{Judgement, again, onward, refused, Test, tested, trackTests, pollsIf, judge, judged, left, Found, none, found, firstRefused, command, answerTo, ruled, exchanged, play}
+use Rattle.recorder.specs.Replies.{senseOf, isBusy, readFailed, isUnready, readUnready, wholeProfile, readProfile, wholeDisc, readDisc, wholeInformation, readInformation, readProgress, readGood, failedBy, reading, ofProfile, ofDisc, ofProgress}
+use Rattle.recorder.specs.Script.{code, asksReady, isPoll, isErasing, erasing, takesImmed, isPolled, polls}
+use Rattle.recorder.specs.Exchanges.{Exchange, wasReady, polling, progress, profile as profileSaid, disc, erased, see, seen}
+use Rattle.recorder.specs.Rules.{Judgement, again, onward, refused, Test, tested, discTests, erases, erasingIf, trackTests, pollsIf, judge, judged, left, Found, none, found, firstRefused, command, answerTo, ruled, exchanged, play}
+use Rattle.recorder.proofs.Lists.{tested-by}
 
 -- ---- the exchanges that the rules make
 
@@ -67,7 +69,7 @@ pub data Reads : Op → Bool → Reading → Type 0 where
   failed : {x : Op} {s : Sense} → Reads x false (Failed s)
   malformed : {x : Op} → Asks x → Reads x true Malformed
   profile : {p : ℕ} → Reads GetConfiguration true (Profile p)
-  status : {q : ℕ} → Reads ReadDiscInformation true (Status q)
+  status : {d : DiscInformation} → Reads ReadDiscInformation true (Disc d)
   information : {t : TrackNumber} {i : TrackInformation} → Reads (ReadTrackInformation t) true (Information i)
   indication : {n : ℕ} → Reads RequestSense true (ProgressIndication n)
   ready : Reads TestUnitReady true Unread
@@ -79,7 +81,7 @@ by-form x true r a w = w
 by-form x false r a w = malformed a
 
 reads-good : (x : Op) (d : List ℕ) → Reads x true (readGood x d)
-unfolding readProfile readStatus readInformation readProgress
+unfolding readProfile readDisc readInformation readProgress
 reads-good GetConfiguration d = by-form GetConfiguration (wholeProfile d) _ a46 profile
 reads-good ReadDiscInformation d = by-form ReadDiscInformation (wholeDisc d) _ a51 status
 reads-good (ReadTrackInformation t) d = by-form (ReadTrackInformation t) (wholeInformation d) _ a52 information
@@ -89,6 +91,7 @@ reads-good (Write t f k) d = unread refl refl
 reads-good (SynchronizeCache t) d = unread refl refl
 reads-good (CloseTrack t) d = unread refl refl
 reads-good CloseSession d = unread refl refl
+reads-good Blank d = unread refl refl
 reads-good TestUnitReady d = ready
 reads-good RequestSense d = by-form RequestSense (leb 18 (length d)) _ a03 indication
 
@@ -118,6 +121,7 @@ reads-failed (Write t f k) d = reads-busy (Write t f k) d refl
 reads-failed (SynchronizeCache t) d = reads-busy (SynchronizeCache t) d refl
 reads-failed (CloseTrack t) d = reads-busy (CloseTrack t) d refl
 reads-failed CloseSession d = reads-busy CloseSession d refl
+reads-failed Blank d = reads-busy Blank d refl
 reads-failed TestUnitReady d = reads-unready d
 reads-failed RequestSense d = reads-busy RequestSense d refl
 
@@ -141,17 +145,18 @@ pub data Turn (p : Bool) : Op → Bool → Bool → Judgement → Type 0 where
   refuses : {x : Op} {g : Bool} {w : Why} → Idle x g → Turn p x g p (refused w)
   works : {x : Op} → isPoll x ≡ false → Turn p x true p (onward [])
   polls-begin : {x : Op} → isPoll x ≡ false → Turn p x true true (onward polls)
+  erases-first : Turn p ReadDiscInformation true p (onward erasing)
   asks : {g : Bool} → Turn p TestUnitReady g p (onward [])
   polls-on : Turn p RequestSense true p (onward polls)
   polls-end : Turn p RequestSense true false (onward [])
 
-turn-tested : (p : Bool) (x : Op) (ts : List Test) → Asks x → isPoll x ≡ false → Turn p x true p (tested ts)
-turn-tested p x [] a n = works n
-turn-tested p x (t ∷ ts) a n = go (t .applies) (turn-tested p x ts a n)
-  where
-    go : (b : Bool) → Turn p x true p (tested ts) → Turn p x true p (if b (refused (because (t .number))) (tested ts))
-    go true k = refuses (only-asked a)
-    go false k = k
+turn-tested : (p : Bool) (x : Op) (ts : List Test) (xs : List Op) → Asks x → Turn p x true p (onward xs) → Turn p x true p (tested ts xs)
+turn-tested p x ts xs a n = tested-by (Turn p x true p) ts xs (λ c. n) (λ k. refuses (only-asked a))
+
+-- a disc that passes is erased first, or not
+turn-erasing : (p b : Bool) → Turn p ReadDiscInformation true p (onward (erasingIf b))
+turn-erasing p true = erases-first
+turn-erasing p false = works refl
 
 -- a polling after a reply
 abbrev pollingBy : Bool → Bool → Bool → Op → Bool → Reading → Bool
@@ -177,8 +182,8 @@ turn-by p o v x g r (malformed a51) = refuses (only-asked a51)
 turn-by p o v x g r (malformed a52) = refuses (only-asked a52)
 turn-by p o v x g r (malformed a03) = refuses (only-asked a03)
 turn-by p o v x g r profile = works refl
-turn-by p o v x g r status = works refl
-turn-by p o v x g r (information {t = t} {i = i}) = turn-tested p (ReadTrackInformation t) (trackTests o (t .0) v i) a52 refl
+turn-by p o v x g r (status {d = d}) = turn-tested p ReadDiscInformation (discTests (o .erase) o v d) _ a51 (turn-erasing p (erases (o .erase) (v .erased) (d .status)))
+turn-by p o v x g r (information {t = t} {i = i}) = turn-tested p (ReadTrackInformation t) (trackTests o (t .0) v i) [] a52 (works refl)
 turn-by p o v x g r (indication {n = n}) = turn-heard p (v .ready) (eqb n 0)
 turn-by p o v x g r ready = asks
 turn-by p o v x g r (unread q n) = turn-worked p x (isPolled (o .immed) x) n
@@ -234,7 +239,7 @@ turn o es x y =
 
 -- ---- the latest progress, as it was seen
 
-progress-by : (m : Method) (x : Op) (v : Seen) (g : Bool) (r : Reading) → Reads x g r → see m x r v .progress ≡ if (g && isClosing x) 0 (ofProgress (v .progress) (λ n. n) r)
+progress-by : (m : Method) (x : Op) (v : Seen) (g : Bool) (r : Reading) → Reads x g r → see m x r v .progress ≡ if (g && takesImmed x) 0 (ofProgress (v .progress) (λ n. n) r)
 progress-by m x v g r (busy n) = refl
 progress-by m x v g r not-ready = refl
 progress-by m x v g r failed = refl
@@ -253,4 +258,42 @@ pub progress-seen : (m : Method) (es : List Exchange) → seen m es .progress �
 progress-seen m [] = refl
 progress-seen m (e ∷ es) =
     progress-by m (e .command .op) (seen m es) (e .reply .good) (reading (e .command .op) (e .reply)) (reads (e .command .op) (e .reply)) ∙
-    ap (λ (n : ℕ). if (e .reply .good && isClosing (e .command .op)) 0 (ofProgress n (λ k. k) (reading (e .command .op) (e .reply)))) (progress-seen m es)
+    ap (λ (n : ℕ). if (e .reply .good && takesImmed (e .command .op)) 0 (ofProgress n (λ k. k) (reading (e .command .op) (e .reply)))) (progress-seen m es)
+
+-- ---- the disc and its erasing, as they were seen
+
+pub profile-seen : (m : Method) (es : List Exchange) → seen m es .profile ≡ profileSaid es
+profile-seen m [] = refl
+profile-seen m (e ∷ es) = go (reading (e .command .op) (e .reply)) ∙ ap (λ (p : ℕ). ofProfile p (λ q. q) (reading (e .command .op) (e .reply))) (profile-seen m es)
+  where
+    go : (r : Reading) → see m (e .command .op) r (seen m es) .profile ≡ ofProfile (seen m es .profile) (λ q. q) r
+    go Busy = refl
+    go NotReady = refl
+    go (Failed s) = refl
+    go Malformed = refl
+    go (Profile p) = refl
+    go (Disc d) = refl
+    go (Information i) = refl
+    go (ProgressIndication n) = refl
+    go Unread = refl
+
+erased-by : (m : Method) (x : Op) (v : Seen) (g : Bool) (r : Reading) → Reads x g r → see m x r v .erased ≡ (g && isErasing x) || v .erased
+erased-by m x v g r (busy n) = refl
+erased-by m x v g r not-ready = refl
+erased-by m x v g r failed = refl
+erased-by m x v g r (malformed a46) = refl
+erased-by m x v g r (malformed a51) = refl
+erased-by m x v g r (malformed a52) = refl
+erased-by m x v g r (malformed a03) = refl
+erased-by m x v g r profile = refl
+erased-by m x v g r status = refl
+erased-by m x v g r information = refl
+erased-by m x v g r indication = refl
+erased-by m x v g r ready = refl
+erased-by m x v g r (unread q n) = refl
+
+pub erased-seen : (m : Method) (es : List Exchange) → seen m es .erased ≡ erased es
+erased-seen m [] = refl
+erased-seen m (e ∷ es) =
+    erased-by m (e .command .op) (seen m es) (e .reply .good) (reading (e .command .op) (e .reply)) (reads (e .command .op) (e .reply)) ∙
+    ap (λ (b : Bool). (e .reply .good && isErasing (e .command .op)) || b) (erased-seen m es)

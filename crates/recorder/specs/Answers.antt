@@ -4,10 +4,10 @@ use mathlib.Core.List.{List, [], _++_}
 use Prim.Native.Nat.{ℕ, _+_, _-_, _*_}
 use lib.ListN.{length, take, replicate}
 use Rattle.mmc.specs.Refusals.{Outcome, pass, numberOf, valueOr}
-use Rattle.mmc.specs.Commands.{getConfiguration, readDiscInformation, readTrackInformation, modeSelect, sendCueSheet, writeCommand, synchronizeCache, closeTrackSession, testUnitReady, requestSense}
+use Rattle.mmc.specs.Commands.{getConfiguration, readDiscInformation, readTrackInformation, modeSelect, sendCueSheet, writeCommand, synchronizeCache, closeTrackSession, testUnitReady, requestSense, blank}
 use Rattle.recorder.specs.declared.replies.Sense.{Sense}
 use Rattle.recorder.specs.declared.script.Op.{Op}
-use Rattle.recorder.specs.declared.script.Op.the-variants.{GetConfiguration, ReadDiscInformation, ReadTrackInformation, ModeSelect, SendCueSheet, Write, SynchronizeCache, CloseTrack, CloseSession, TestUnitReady, RequestSense}
+use Rattle.recorder.specs.declared.script.Op.the-variants.{GetConfiguration, ReadDiscInformation, ReadTrackInformation, ModeSelect, SendCueSheet, Write, SynchronizeCache, CloseTrack, CloseSession, Blank, TestUnitReady, RequestSense}
 use Rattle.mmc.specs.declared.units.BlockAddress.{BlockAddress}
 use Rattle.recorder.specs.declared.answers.Command.{Command}
 use Rattle.recorder.specs.declared.answers.Cdb.{Cdb}
@@ -43,7 +43,7 @@ abbrev pub sheetBytes : ℕ → ℕ
 sheetBytes n = 8 * (n + 3)
 
 -- those of its maker, in a job of n tracks: a WRITE starts at the command's address, "5Bh function 1, track FFh", "5Bh function 2, track 0",
--- "With flag bit 2, Immed is set in 35h .. and 5Bh"
+-- "With flag bit 2, Immed is set in 35h .. and 5Bh"; A1h is "01h in byte 1 (11h with Ask 1's flag ..)"
 abbrev pub madeBy : Bool → ℕ → BlockAddress → Op → Outcome (List ℕ)
 madeBy immed n a GetConfiguration = pass getConfiguration
 madeBy immed n a ReadDiscInformation = pass readDiscInformation
@@ -54,6 +54,7 @@ madeBy immed n a (Write t f k) = writeCommand a k
 madeBy immed n a (SynchronizeCache t) = pass (synchronizeCache immed)
 madeBy immed n a (CloseTrack t) = closeTrackSession immed 1 (record { 0 = 0xFF })
 madeBy immed n a CloseSession = closeTrackSession immed 2 (record { 0 = 0 })
+madeBy immed n a Blank = pass (blank immed)
 madeBy immed n a TestUnitReady = pass testUnitReady
 madeBy immed n a RequestSense = pass requestSense
 

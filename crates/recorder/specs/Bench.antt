@@ -17,7 +17,7 @@ use Rattle.mmc.specs.declared.order.Method.{Method}
 use Rattle.mmc.specs.declared.order.Method.the-variants.{Tao, Sao}
 use Rattle.recorder.specs.Answers.{drive-failed, number, bytesOf}
 use Rattle.recorder.specs.declared.script.Op.{Op}
-use Rattle.recorder.specs.declared.script.Op.the-variants.{ModeSelect, SendCueSheet, CloseSession, TestUnitReady, RequestSense}
+use Rattle.recorder.specs.declared.script.Op.the-variants.{ModeSelect, SendCueSheet, CloseSession, Blank, TestUnitReady, RequestSense}
 use Rattle.recorder.specs.Script.{script, write as writing}
 use Rattle.recorder.specs.Replies.{noSense}
 use Rattle.recorder.specs.Exchanges.{Exchange, progress}
@@ -30,7 +30,7 @@ abbrev pub track : Kind → ℕ → Track
 track k l = record { kind = k; length = record { 0 = l } }
 
 abbrev pub orderOf : Method → Bool → List Track → Order
-orderOf m keep ts = record { method = m; keep = keep; protect = false; immed = false; count = length ts; tracks = ts ++ replicate (mostTracks - length ts) noTrack }
+orderOf m keep ts = record { method = m; keep = keep; protect = false; immed = false; erase = false; count = length ts; tracks = ts ++ replicate (mostTracks - length ts) noTrack }
 
 -- audio tracks of these lengths
 abbrev pub audio : List ℕ → List Track
@@ -95,7 +95,7 @@ changed k g = after k (order Tao (300 ∷ [])) (plain 0 0 300) (g (plain 0 0 300
 
 -- whether a state at an operation and its polling, with the next block at a frame, passes the recorder's own test
 abbrev pub passesAt : Order → Op → Poll → ℕ → Bool
-passesAt o x p at = stands o (record { place = x; poll = p; seen = record { profile = 9; status = 0; at = record { 0 = at }; ready = false; progress = 0 } })
+passesAt o x p at = stands o (record { place = x; poll = p; seen = record { profile = 9; status = 0; at = record { 0 = at }; erased = false; ready = false; progress = 0 } })
 
 abbrev pub passes : Order → Op → ℕ → Bool
 passes o x at = passesAt o x Off at
@@ -103,7 +103,7 @@ passes o x at = passesAt o x Off at
 -- ---- document 02: with flag bit 2
 
 abbrev pub immediate : Order → Order
-immediate o = record { method = o .method; keep = o .keep; protect = o .protect; immed = true; count = o .count; tracks = o .tracks }
+immediate o = record { method = o .method; keep = o .keep; protect = o .protect; immed = true; erase = o .erase; count = o .count; tracks = o .tracks }
 
 -- the exchanges of a track at once of 300 blocks whose 35h is answered good, and then these replies
 abbrev pub closing : List Reply → List Exchange

@@ -1,5 +1,5 @@
 -- Commands and the replies to them, the latest first, and what is read off a list of them.
-use mathlib.Core.Bool.{Bool, true, false, not, _&&_}
+use mathlib.Core.Bool.{Bool, true, false, not, _&&_, _||_}
 use mathlib.Core.List.{List, [], _∷_, _++_}
 use Prim.Native.Nat.{ℕ, zero, suc, _+_}
 use lib.Dec.{eqb}
@@ -10,12 +10,13 @@ use Rattle.mmc.specs.declared.units.FrameCount.{FrameCount}
 use Rattle.mmc.specs.declared.order.Method.{Method}
 use Rattle.recorder.specs.declared.script.Op.{Op}
 use Rattle.recorder.specs.declared.answers.Command.{Command}
+use Rattle.recorder.specs.declared.replies.DiscInformation.{DiscInformation}
 use Rattle.recorder.specs.declared.replies.TrackInformation.{TrackInformation}
 use Rattle.recorder.specs.declared.replies.Reading.{Reading}
-use Rattle.recorder.specs.declared.replies.Reading.the-variants.{Busy, NotReady, Failed, Malformed, Profile, Status, Information, ProgressIndication, Unread}
+use Rattle.recorder.specs.declared.replies.Reading.the-variants.{Busy, NotReady, Failed, Malformed, Profile, Disc, Information, ProgressIndication, Unread}
 use Rattle.recorder.specs.declared.exchanges.Seen.{Seen}
-use Rattle.recorder.specs.Replies.{isBusy, reading, ofInformation, ofProgress}
-use Rattle.recorder.specs.Script.{trackIn, ofWrite, countIn, isClosing, asksReady, isPolled, stepwise, Block, blocksIn, closingIn}
+use Rattle.recorder.specs.Replies.{isBusy, reading, ofProfile, ofDisc, ofInformation, ofProgress}
+use Rattle.recorder.specs.Script.{trackIn, ofWrite, countIn, asksReady, isErasing, takesImmed, isPolled, stepwise, Block, blocksIn, closingIn}
 
 -- "the commands given so far and the replies to them"
 pub record Exchange : Type 0 where
@@ -83,12 +84,33 @@ polling immed (e ∷ es) = if (begins immed e) true (if (ends es e) false (polli
 -- "the latest progress of a polling under way"; it is 0 before the first 03h
 abbrev pub progress : List Exchange → ℕ
 progress [] = 0
-progress (e ∷ es) = if (e .reply .good && isClosing (e .command .op)) 0 (ofProgress (progress es) (λ n. n) (read e))
+progress (e ∷ es) = if (e .reply .good && takesImmed (e .command .op)) 0 (ofProgress (progress es) (λ n. n) (read e))
+
+-- ---- the disc, and its erasing
+
+-- what the latest 46h and the latest 51h said
+abbrev pub profile : List Exchange → ℕ
+profile [] = 0
+profile (e ∷ es) = ofProfile (profile es) (λ p. p) (read e)
+
+abbrev pub disc : List Exchange → DiscInformation
+disc [] = record { status = 0; erasable = false }
+disc (e ∷ es) = ofDisc (disc es) (λ d. d) (read e)
+
+-- "an erasing took place": an A1h was answered good
+abbrev pub erased : List Exchange → Bool
+erased [] = false
+erased (e ∷ es) = (e .reply .good && isErasing (e .command .op)) || erased es
+
+-- an A1h was given, and no 51h has said blank since
+abbrev pub unblank : List Exchange → Bool
+unblank [] = false
+unblank (e ∷ es) = if (isErasing (e .command .op)) true (ofDisc (unblank es) (λ d. not (eqb (d .status) 0) && unblank es) (read e))
 
 -- ---- what was seen: all that the rules look at, where the next block goes in frames, and the latest progress, for the panel
 
 abbrev pub nothingSeen : Seen
-nothingSeen = record { profile = 0; status = 0; at = record { 0 = 0 }; ready = false; progress = 0 }
+nothingSeen = record { profile = 0; status = 0; at = record { 0 = 0 }; erased = false; ready = false; progress = 0 }
 
 -- "In TAO a track starts at the address of its latest 52h"
 abbrev pub startAt : Method → FrameCount → TrackInformation → FrameCount
@@ -98,13 +120,13 @@ startAt m at i = if (stepwise m) (framesTo (i .address)) at
 abbrev pub past : Op → FrameCount → FrameCount
 past x at = ofWrite at (λ t f k. record { 0 = at .0 + k }) x
 
--- a polling begins anew with each closing command
+-- a polling begins anew with each command that takes Immed
 abbrev pub progressPast : Op → ℕ → ℕ
-progressPast x n = if (isClosing x) 0 n
+progressPast x n = if (takesImmed x) 0 n
 
 -- no 00h was answered good since
 abbrev pub unreadySeen : Seen → Seen
-unreadySeen v = record { profile = v .profile; status = v .status; at = v .at; ready = false; progress = v .progress }
+unreadySeen v = record { profile = v .profile; status = v .status; at = v .at; erased = v .erased; ready = false; progress = v .progress }
 
 -- by what a reply to an operation says
 abbrev pub see : Method → Op → Reading → Seen → Seen
@@ -112,11 +134,11 @@ see m x Busy v = v
 see m x NotReady v = unreadySeen v
 see m x (Failed s) v = unreadySeen v
 see m x Malformed v = unreadySeen v
-see m x (Profile p) v = record { profile = p; status = v .status; at = v .at; ready = false; progress = v .progress }
-see m x (Status q) v = record { profile = v .profile; status = q; at = v .at; ready = false; progress = v .progress }
-see m x (Information i) v = record { profile = v .profile; status = v .status; at = startAt m (v .at) i; ready = false; progress = v .progress }
-see m x (ProgressIndication n) v = record { profile = v .profile; status = v .status; at = v .at; ready = false; progress = n }
-see m x Unread v = record { profile = v .profile; status = v .status; at = past x (v .at); ready = asksReady x; progress = progressPast x (v .progress) }
+see m x (Profile p) v = record { profile = p; status = v .status; at = v .at; erased = v .erased; ready = false; progress = v .progress }
+see m x (Disc d) v = record { profile = v .profile; status = d .status; at = v .at; erased = v .erased; ready = false; progress = v .progress }
+see m x (Information i) v = record { profile = v .profile; status = v .status; at = startAt m (v .at) i; erased = v .erased; ready = false; progress = v .progress }
+see m x (ProgressIndication n) v = record { profile = v .profile; status = v .status; at = v .at; erased = v .erased; ready = false; progress = n }
+see m x Unread v = record { profile = v .profile; status = v .status; at = past x (v .at); erased = isErasing x || v .erased; ready = asksReady x; progress = progressPast x (v .progress) }
 
 abbrev pub seen : Method → List Exchange → Seen
 seen m [] = nothingSeen

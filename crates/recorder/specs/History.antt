@@ -2,10 +2,11 @@
 -- holds of every history.
 use mathlib.Core.Path.{_≡_}
 use mathlib.Core.Logic.{_↔_}
-use mathlib.Core.Bool.{Bool, true, false, _||_}
+use mathlib.Core.Bool.{Bool, true, false, _&&_, _||_}
 use mathlib.Core.List.{List, [], _∷_, _++_}
 use Prim.Native.Nat.{ℕ, suc, _+_, _-_, _≤_, _<_, min}
 use lib.ListN.{length, getD}
+use lib.Dec.{ltb}
 use Rattle.mmc.specs.Bytes.{if}
 use Rattle.mmc.specs.Refusals.{pass}
 use Rattle.mmc.specs.Order.{noTrack, tracksIn, allLong, blocksOf}
@@ -17,16 +18,19 @@ use Rattle.mmc.specs.ReplyBlock.{Reply, replyOf}
 use Rattle.mmc.specs.declared.units.TrackNumber.{TrackNumber}
 use Rattle.mmc.specs.declared.order.Order.{Order}
 use Rattle.recorder.specs.declared.script.Op.{Op}
-use Rattle.recorder.specs.declared.script.Op.the-variants.{ModeSelect, SendCueSheet}
+use Rattle.recorder.specs.declared.script.Op.the-variants.{ModeSelect, SendCueSheet, Blank}
 use Rattle.recorder.specs.declared.answers.Command.{Command}
+use Rattle.recorder.specs.declared.replies.DiscInformation.{DiscInformation}
+use Rattle.recorder.specs.declared.replies.Reading.{Reading}
 use Rattle.recorder.specs.declared.job.Phase.{Phase}
 use Rattle.recorder.specs.declared.job.Phase.the-variants.{Idle, Going, Finished, Stopped, Failed}
 use Rattle.recorder.specs.declared.job.Recorder.{Recorder}
 use Rattle.recorder.specs.declared.job.Step.{Step}
 use Rattle.recorder.specs.Answers.{Why, because, drive-failed, Ruling, issue, done, stop, sheetBytes, madeFor, bytesIn}
 use Rattle.recorder.specs.Script.{gather, asksReady, isPoll, stepwise, write, Block, script, expected}
-use Rattle.recorder.specs.Exchanges.{Exchange, recorded, occupied, polling, progress, seen, Named, named}
-use Rattle.recorder.specs.Rules.{otherProfile, unsuitable, mixedOrKept, none, found, refusal, ruled, exchanged, play, orderedIn, AllClosed}
+use Rattle.recorder.specs.Replies.{ofDisc}
+use Rattle.recorder.specs.Exchanges.{Exchange, read, gathered, recorded, occupied, polling, progress, profile, disc, erased, unblank, Named, named}
+use Rattle.recorder.specs.Rules.{otherProfile, unsuitable, mixedOrKept, used, notErasable, none, found, refusal, ruled, exchanged, play, orderedIn, AllClosed}
 use Rattle.recorder.specs.Job.{Next, nextIn, mostCommands, latestProgress, unchanged, validOf, idleRecorder, takeOf, giveOf}
 
 -- what the calls gave back since the order was taken: the last step; all answers, and the commands with the replies to them, the
@@ -137,7 +141,44 @@ Fresh before c = (t f k : ℕ) → c .op ≡ write t f k → FreshWrite (named b
 abbrev pub Unskipped : Bool → List Exchange → Command → Type 0
 Unskipped immed before c = isPoll (c .op) ≡ polling immed before
 
+-- ---- "No disc may be wiped for an order known to be bad"
+
+-- an order that passes 8, 9 and the lead-out limit
+pub record Recordable (o : Order) : Type 0 where
+  pub alike : mixedOrKept (o .method) o ≡ false
+  pub long : allLong (tracksIn o) ≡ true
+  pub ends : blocksOf (tracksIn o) ≤ lastAddress
+
+-- an A1h, given the exchanges before it: the order has flag bit 3 and passes 8, 9 and the lead-out limit; the profile was 000Ah, so 5 passes
+-- too; the latest 51h said that the disc is erasable, and of status 1 or 2; and no erasing has taken place
+pub record RightlyErased (o : Order) (before : List Exchange) : Type 0 where
+  pub flagged : o .erase ≡ true
+  pub recordable : Recordable o
+  pub cd-rw : profile before ≡ 0x000A
+  pub passes-5 : otherProfile (profile before) ≡ false
+  pub erasable : disc before .erasable ≡ true
+  pub not-blank : 1 ≤ disc before .status
+  pub at-most-2 : disc before .status ≤ 2
+  pub once : erased before ≡ false
+
+abbrev pub ErasesRightly : Order → List Exchange → Command → Type 0
+ErasesRightly o before c = c .op ≡ Blank → RightlyErased o before
+
+-- ---- "Afterwards 51h is asked anew and must say blank"
+
+-- a WRITE, given the exchanges before it: no A1h was given, or a 51h has said blank since; with flag bit 3 the latest 51h said so in any case
+pub record BlankBefore (o : Order) (before : List Exchange) : Type 0 where
+  pub said-blank : unblank before ≡ false
+  pub is-blank : o .erase ≡ true → disc before .status ≡ 0
+
+abbrev pub WritesOnBlank : Order → List Exchange → Command → Type 0
+WritesOnBlank o before c = (t f k : ℕ) → c .op ≡ write t f k → BlankBefore o before
+
 -- ---- part 7
+
+-- "The exact count grows by 2 where an erasing took place"
+abbrev pub exactCount : Order → List Exchange → ℕ
+exactCount o es = expected o + if (erased es) 2 0
 
 -- "all replies, each good", but a 00h that says not ready belongs to a polling
 abbrev pub AllWell : List Exchange → Type 0
@@ -154,19 +195,19 @@ abbrev pub answered : List Exchange → List Command
 answered [] = []
 answered (e ∷ es) = e .command ∷ answered es
 
--- "it is done after exactly the count in document 01", "where every polling ends": of k replies
+-- "it is done after exactly the count in document 01", "where every polling ends", and 2 more "where an erasing took place": of k replies
 pub record AllGood (o : Order) (k : ℕ) (es : List Exchange) (answers : List Ruling) : Type 0 where
   -- the commands that are no polls are exactly the count when it is done
-  pub exact : ended answers ≡ as-done → unpolled (commands answers) ≡ expected o
+  pub exact : ended answers ≡ as-done → unpolled (commands answers) ≡ exactCount o es
   -- and on the way: one more than those answered, up to the count, and none more while a polling is under way
-  pub given-count : unpolled (commands answers) ≡ if (polling (o .immed) es) (unpolled (answered es)) (min (unpolled (answered es) + 1) (expected o))
+  pub given-count : unpolled (commands answers) ≡ if (polling (o .immed) es) (unpolled (answered es)) (min (unpolled (answered es) + 1) (exactCount o es))
   -- it is done as soon as the whole count is answered and the last polling has ended, and not before; each reply answers a command until then
-  pub done-at : expected o ≤ unpolled (answered es) → polling (o .immed) es ≡ false → ended answers ≡ as-done
-  pub not-before : unpolled (answered es) < expected o → ended answers ≡ going
+  pub done-at : exactCount o es ≤ unpolled (answered es) → polling (o .immed) es ≡ false → ended answers ≡ as-done
+  pub not-before : unpolled (answered es) < exactCount o es → ended answers ≡ going
   pub not-polling : polling (o .immed) es ≡ true → ended answers ≡ going
   pub each-reply : ended answers ≡ going → length es ≡ k
   -- without the flag no command is a poll: done after k replies, if that is the count, and not before
-  pub no-polls : o .immed ≡ false → (polling (o .immed) es ≡ false) × ((unpolled (answered es) ≡ min k (expected o)) × (length (commands answers) ≡ min (k + 1) (expected o)))
+  pub no-polls : o .immed ≡ false → (polling (o .immed) es ≡ false) × ((unpolled (answered es) ≡ min k (exactCount o es)) × (length (commands answers) ≡ min (k + 1) (exactCount o es)))
 
 -- ---- demand 3
 
@@ -200,6 +241,10 @@ pub record Whole (b : List ℕ) (rs : List Reply) (h : History) : Type 0 where
   pub never-stale : (o : Order) → readOrder b ≡ pass o → stepwise (o .method) ≡ true → Every Fresh (h .exchanges) (h .last .answer)
   -- "progress never skips a step"
   pub never-skips : (o : Order) → readOrder b ≡ pass o → Every (Unskipped (o .immed)) (h .exchanges) (h .last .answer)
+  -- "No disc may be wiped for an order known to be bad"
+  pub erases-rightly : (o : Order) → readOrder b ≡ pass o → Every (ErasesRightly o) (h .exchanges) (h .last .answer)
+  -- and nothing is written on one that was erased before "51h is asked anew and must say blank"
+  pub writes-on-blank : (o : Order) → readOrder b ≡ pass o → Every (WritesOnBlank o) (h .exchanges) (h .last .answer)
   -- what the panel shows: how the job stands, and while it goes on the progress of the polling under way
   pub phase-so : h .last .state .phase ≡ phaseIn (ended (h .answers))
   pub shows : (o : Order) → readOrder b ≡ pass o → ended (h .answers) ≡ going → latestProgress (h .last .state .progress) ≡ if (polling (o .immed) (h .exchanges)) (progress (h .exchanges)) 0
@@ -217,25 +262,32 @@ abbrev pub AllMarkedGood : List Reply → Type 0
 AllMarkedGood [] = Unit {0}
 AllMarkedGood (y ∷ ys) = (y .good ≡ true) × AllMarkedGood ys
 
--- replies that are bytes, good ones that the rules pass and that lead to the end as done, from a disc of this profile and status
-pub record Passing (o : Order) (profile status : ℕ) (rs : List Reply) : Type 0 where
+-- what the replies to 51h said, from the first on
+abbrev pub discsIn : Reading → List DiscInformation
+discsIn r = ofDisc [] (λ d. d ∷ []) r
+
+abbrev pub discs : List Exchange → List DiscInformation
+discs es = gathered (λ e. discsIn (read e)) es
+
+-- replies that are bytes, good ones that the rules pass and that lead to the end as done, of a drive that says this profile and, first, this
+-- disc; with flag bit 3 and a disc of status 1 or 2 an erasing takes place
+pub record Passing (o : Order) (p : ℕ) (d : DiscInformation) (rs : List Reply) : Type 0 where
   pub all-bytes : AllBytes rs
   pub marked : AllMarkedGood rs
   pub unrefused : refusal (pass o) (play (pass o) [] rs) ≡ none
   pub enough : ruled (pass o) (play (pass o) [] rs) ≡ done
-  pub of-profile : seen (o .method) (play (pass o) [] rs) .profile ≡ profile
-  pub of-status : seen (o .method) (play (pass o) [] rs) .status ≡ status
+  pub of-profile : profile (play (pass o) [] rs) ≡ p
+  pub of-disc : (more : List DiscInformation) × (discs (play (pass o) [] rs) ≡ d ∷ more)
+  pub erases-so : erased (play (pass o) [] rs) ≡ (o .erase && used (d .status))
 
--- an order that passes 8, 9 and the lead-out limit
-pub record Recordable (o : Order) : Type 0 where
-  pub alike : mixedOrKept (o .method) o ≡ false
-  pub long : allLong (tracksIn o) ≡ true
-  pub ends : blocksOf (tracksIn o) ≤ lastAddress
+-- with flag bit 3 all but status 3 and a used disc that can't be erased; without it what the method takes
+abbrev pub unfit : Order → ℕ → DiscInformation → Bool
+unfit o p d = if (o .erase) (ltb 2 (d .status) || notErasable p d) (unsuitable (o .method) (d .status))
 
--- a disc that passes 5 and 6
-pub record Suitable (o : Order) (profile status : ℕ) : Type 0 where
-  pub profile-so : otherProfile profile ≡ false
-  pub status-so : unsuitable (o .method) status ≡ false
+-- a disc that passes 5, 6 and 16
+pub record Suitable (o : Order) (p : ℕ) (d : DiscInformation) : Type 0 where
+  pub profile-so : otherProfile p ≡ false
+  pub disc-so : unfit o p d ≡ false
 
 -- ---- what the calls promise
 
@@ -249,7 +301,7 @@ pub record Takes (b : List ℕ) (s : Step) : Type 0 where
   pub step : nextIn s ≡ takeOf b
   pub begins : OfHistory b [] (nextIn s)
   pub script-length : (o : Order) → readOrder b ≡ pass o → length (script o) ≡ expected o
-  pub can-pass : (o : Order) → readOrder b ≡ pass o → Recordable o → (profile status : ℕ) → Suitable o profile status → (rs : List Reply) × Passing o profile status rs
+  pub can-pass : (o : Order) → readOrder b ≡ pass o → Recordable o → (p : ℕ) (d : DiscInformation) → Suitable o p d → (rs : List Reply) × Passing o p d rs
 
 -- `give`: the plain job's step; demand 3 of every history that this reply goes on with; and of every state, also one that no history
 -- gives: the bytes of a command that is given are those of its maker, which refuses none

@@ -1,7 +1,7 @@
 -- The plain job: "It holds the order, the fields read, its place in the sequence of commands above, start and end of the latest
 -- track, and the command count."
 use mathlib.Core.Path.{_≡_}
-use mathlib.Core.Bool.{Bool, true, false, not, _&&_}
+use mathlib.Core.Bool.{Bool, true, false, not, _&&_, _||_}
 use mathlib.Core.List.{List, [], _∷_}
 use Prim.Native.Nat.{ℕ, suc, _+_, _-_, _^_, min}
 use lib.Dec.{ltb, leb, eqb}
@@ -16,7 +16,7 @@ use Rattle.mmc.specs.declared.order.Order.{Order}
 use Rattle.mmc.specs.declared.order.Method.{Method}
 use Rattle.mmc.specs.declared.order.Method.the-variants.{Tao, Sao}
 use Rattle.recorder.specs.declared.script.Op.{Op}
-use Rattle.recorder.specs.declared.script.Op.the-variants.{GetConfiguration, ReadDiscInformation, ReadTrackInformation, ModeSelect, SendCueSheet, Write, SynchronizeCache, CloseTrack, CloseSession, TestUnitReady, RequestSense}
+use Rattle.recorder.specs.declared.script.Op.the-variants.{GetConfiguration, ReadDiscInformation, ReadTrackInformation, ModeSelect, SendCueSheet, Write, SynchronizeCache, CloseTrack, CloseSession, Blank, TestUnitReady, RequestSense}
 use Rattle.recorder.specs.declared.places.Following.{Following}
 use Rattle.recorder.specs.declared.places.Following.the-variants.{Next as Then, Nothing}
 use Rattle.recorder.specs.declared.answers.Command.{Command}
@@ -34,7 +34,7 @@ use Rattle.recorder.specs.declared.job.Recorder.{Recorder}
 use Rattle.recorder.specs.declared.job.Step.{Step}
 use Rattle.recorder.specs.Replies.{reading, UnsignedIn, ForTrack}
 use Rattle.recorder.specs.Answers.{Why, because, drive-failed, Ruling, issue, done, stop, said, bytesOf, cdbOf}
-use Rattle.recorder.specs.Script.{portion, trackIn, isPolled, stepwise}
+use Rattle.recorder.specs.Script.{portion, trackIn, isPoll, isErasing, isPolled, stepwise}
 use Rattle.recorder.specs.Places.{pieceOf, afterIn}
 use Rattle.recorder.specs.Exchanges.{nothingSeen, see}
 use Rattle.recorder.specs.Rules.{lastFrame, Judgement, again, onward, refused, judge}
@@ -77,10 +77,14 @@ onwardBy Off x f v = advanced f v
 onwardBy Ready x f v = goes (record { place = x; poll = Sense; seen = v })
 onwardBy Sense x f v = advanced f v
 
--- with polls in front the job stays where it is
+-- with polls in front the job stays where it is; else A1h comes in front
+abbrev pub aside : Bool → Op → Seen → Progress
+aside true x v = record { place = x; poll = Ready; seen = v }
+aside false x v = record { place = Blank; poll = Off; seen = v }
+
 abbrev pub onwardWith : List Op → Poll → Op → Following → Seen → Turn
 onwardWith [] p x f v = onwardBy p x f v
-onwardWith (y ∷ ys) p x f v = goes (record { place = x; poll = Ready; seen = v })
+onwardWith (y ∷ ys) p x f v = goes (aside (isPoll y) x v)
 
 -- "Busy: the same command again. Failed otherwise: the end ..  Good: if numbers judged there apply, the end with the one that comes
 -- first; else the next command by the rules above, and after the last one the end as done."
@@ -171,6 +175,7 @@ standsAt m n l k at (Write t f c) = inPiece m n k (t .0) && isWrite l (f .0) (c 
 standsAt m n l k at (SynchronizeCache t) = inOrder n (t .0)
 standsAt m n l k at (CloseTrack t) = stepwise m && inOrder n (t .0)
 standsAt m n l k at CloseSession = stepwise m
+standsAt m n l k at Blank = true
 standsAt m n l k at TestUnitReady = false
 standsAt m n l k at RequestSense = false
 
@@ -184,10 +189,15 @@ standsPolled immed x Off = true
 standsPolled immed x Ready = isPolled immed x
 standsPolled immed x Sense = isPolled immed x
 
+-- and A1h is of an order with flag bit 3
+abbrev pub standsErasing : Bool → Op → Bool
+standsErasing erase x = not (isErasing x) || erase
+
 abbrev pub stands : Order → Progress → Bool
 stands o s =
     standsPolled (o .immed) (s .place) (s .poll) &&
-    standsIn (o .method) (o .count) (pieceOf o (trackIn (s .place))) (pieceOf o (suc (trackIn (s .place)))) (s .seen .at) (s .place)
+    (standsErasing (o .erase) (s .place) &&
+    standsIn (o .method) (o .count) (pieceOf o (trackIn (s .place))) (pieceOf o (suc (trackIn (s .place)))) (s .seen .at) (s .place))
 
 -- no reply is awaited
 abbrev pub restsAt : Phase → Bool

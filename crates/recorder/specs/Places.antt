@@ -1,5 +1,5 @@
 -- The places of the plain job: which operation comes after another. The rules don't speak of them: they have the script. A poll has no
--- place of its own: the job stays at the operation that is polled.
+-- place of its own: the job stays at the operation that is polled. A1h has one, from which the job goes back to 51h.
 use Prim.Native.Nat.{ℕ, zero, suc, _+_}
 use lib.ListN.{getD}
 use lib.Dec.{ltb}
@@ -10,7 +10,7 @@ use Rattle.mmc.specs.declared.order.Order.{Order}
 use Rattle.mmc.specs.declared.order.Method.{Method}
 use Rattle.mmc.specs.declared.order.Method.the-variants.{Tao, Sao}
 use Rattle.recorder.specs.declared.script.Op.{Op}
-use Rattle.recorder.specs.declared.script.Op.the-variants.{GetConfiguration, ReadDiscInformation, ReadTrackInformation, ModeSelect, SendCueSheet, Write, SynchronizeCache, CloseTrack, CloseSession, TestUnitReady, RequestSense}
+use Rattle.recorder.specs.declared.script.Op.the-variants.{GetConfiguration, ReadDiscInformation, ReadTrackInformation, ModeSelect, SendCueSheet, Write, SynchronizeCache, CloseTrack, CloseSession, Blank, TestUnitReady, RequestSense}
 use Rattle.recorder.specs.declared.places.Following.{Following}
 use Rattle.recorder.specs.declared.places.Following.the-variants.{Next as Then, Nothing}
 use Rattle.recorder.specs.Script.{write, portion, trackIn, ofWrite}
@@ -54,6 +54,7 @@ opAfter m n l k (Write t f c) = Then (beforeBlock m n l k (t .0) (f .0 + c .0))
 opAfter m n l k (SynchronizeCache t) = afterSynchronize m (t .0)
 opAfter m n l k (CloseTrack t) = Then (afterCloseTrack n (t .0))
 opAfter m n l k CloseSession = Nothing
+opAfter m n l k Blank = Then ReadDiscInformation
 opAfter m n l k TestUnitReady = Nothing
 opAfter m n l k RequestSense = Nothing
 

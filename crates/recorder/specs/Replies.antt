@@ -11,11 +11,12 @@ use Rattle.mmc.specs.ReplyBlock.{Reply}
 use Rattle.mmc.specs.declared.units.BlockAddress.{BlockAddress}
 use Rattle.recorder.specs.declared.script.Op.{Op}
 use Rattle.recorder.specs.Script.{asksReady}
-use Rattle.recorder.specs.declared.script.Op.the-variants.{GetConfiguration, ReadDiscInformation, ReadTrackInformation, ModeSelect, SendCueSheet, Write, SynchronizeCache, CloseTrack, CloseSession, TestUnitReady, RequestSense}
+use Rattle.recorder.specs.declared.script.Op.the-variants.{GetConfiguration, ReadDiscInformation, ReadTrackInformation, ModeSelect, SendCueSheet, Write, SynchronizeCache, CloseTrack, CloseSession, Blank, TestUnitReady, RequestSense}
 use Rattle.recorder.specs.declared.replies.Sense.{Sense}
+use Rattle.recorder.specs.declared.replies.DiscInformation.{DiscInformation}
 use Rattle.recorder.specs.declared.replies.TrackInformation.{TrackInformation}
 use Rattle.recorder.specs.declared.replies.Reading.{Reading}
-use Rattle.recorder.specs.declared.replies.Reading.the-variants.{Busy, NotReady, Failed, Malformed, Profile, Status, Information, ProgressIndication, Unread}
+use Rattle.recorder.specs.declared.replies.Reading.the-variants.{Busy, NotReady, Failed, Malformed, Profile, Disc, Information, ProgressIndication, Unread}
 
 abbrev pub byte : List ℕ → ℕ → ℕ
 byte d i = getD d i 0
@@ -68,15 +69,15 @@ profileOf d = be16 (drop 6 d)
 unfoldable pub readProfile : List ℕ → Reading
 readProfile d = if (wholeProfile d) (Profile (profileOf d)) Malformed
 
--- 51h: "at least 34 bytes, length field (0, 1) at least 32; in byte 2, bits 7 to 5 are 0 and bits 1, 0 are the status"
+-- 51h: "at least 34 bytes, length field (0, 1) at least 32; in byte 2, bits 7 to 5 are 0 and bits 1, 0 are the status", and bit 4 is Erasable
 unfoldable pub wholeDisc : List ℕ → Bool
 wholeDisc d = leb 34 (length d) && (leb 32 (be16 d) && eqb (byte d 2 / 32) 0)
 
-abbrev pub statusOf : List ℕ → ℕ
-statusOf d = byte d 2 % 4
+unfoldable pub discOf : List ℕ → DiscInformation
+discOf d = record { status = byte d 2 % 4; erasable = eqb (byte d 2 / 16 % 2) 1 }
 
-unfoldable pub readStatus : List ℕ → Reading
-readStatus d = if (wholeDisc d) (Status (statusOf d)) Malformed
+unfoldable pub readDisc : List ℕ → Reading
+readDisc d = if (wholeDisc d) (Disc (discOf d)) Malformed
 
 -- 52h: "at least 28 bytes, length field (0, 1) at least 26; Damage is bit 5 of byte 5, NWA_V bit 0 of byte 7, Next Writable
 -- Address bytes 12 to 15, Free Blocks 16 to 19, both unsigned"
@@ -107,7 +108,7 @@ readProgress d = if (leb 18 (length d)) (ProgressIndication (progressOf d)) Malf
 -- "A data-less command's reply data is ignored."
 abbrev pub readGood : Op → List ℕ → Reading
 readGood GetConfiguration d = readProfile d
-readGood ReadDiscInformation d = readStatus d
+readGood ReadDiscInformation d = readDisc d
 readGood (ReadTrackInformation t) d = readInformation d
 readGood (ModeSelect t) d = Unread
 readGood SendCueSheet d = Unread
@@ -115,6 +116,7 @@ readGood (Write t f k) d = Unread
 readGood (SynchronizeCache t) d = Unread
 readGood (CloseTrack t) d = Unread
 readGood CloseSession d = Unread
+readGood Blank d = Unread
 readGood TestUnitReady d = Unread
 readGood RequestSense d = readProgress d
 
@@ -124,6 +126,30 @@ failedBy x d = if (asksReady x) (readUnready d) (readFailed d)
 abbrev pub reading : Op → Reply → Reading
 reading x y = if (y .good) (readGood x (y .bytes)) (failedBy x (y .bytes))
 
+-- what belongs to a profile, and what to any other reading
+abbrev pub ofProfile : {B : Type 0} → B → (ℕ → B) → Reading → B
+ofProfile z g Busy = z
+ofProfile z g NotReady = z
+ofProfile z g (Failed s) = z
+ofProfile z g Malformed = z
+ofProfile z g (Profile p) = g p
+ofProfile z g (Disc q) = z
+ofProfile z g (Information i) = z
+ofProfile z g (ProgressIndication p) = z
+ofProfile z g Unread = z
+
+-- what belongs to disc information, and what to any other reading
+abbrev pub ofDisc : {B : Type 0} → B → (DiscInformation → B) → Reading → B
+ofDisc z g Busy = z
+ofDisc z g NotReady = z
+ofDisc z g (Failed s) = z
+ofDisc z g Malformed = z
+ofDisc z g (Profile p) = z
+ofDisc z g (Disc q) = g q
+ofDisc z g (Information i) = z
+ofDisc z g (ProgressIndication p) = z
+ofDisc z g Unread = z
+
 -- what belongs to track information, and what to any other reading
 abbrev pub ofInformation : {B : Type 0} → B → (TrackInformation → B) → Reading → B
 ofInformation z g Busy = z
@@ -131,7 +157,7 @@ ofInformation z g NotReady = z
 ofInformation z g (Failed s) = z
 ofInformation z g Malformed = z
 ofInformation z g (Profile p) = z
-ofInformation z g (Status q) = z
+ofInformation z g (Disc q) = z
 ofInformation z g (Information i) = g i
 ofInformation z g (ProgressIndication p) = z
 ofInformation z g Unread = z
@@ -143,7 +169,7 @@ ofProgress z g NotReady = z
 ofProgress z g (Failed s) = z
 ofProgress z g Malformed = z
 ofProgress z g (Profile p) = z
-ofProgress z g (Status q) = z
+ofProgress z g (Disc q) = z
 ofProgress z g (Information i) = z
 ofProgress z g (ProgressIndication p) = g p
 ofProgress z g Unread = z
@@ -156,7 +182,7 @@ OfInformation P NotReady = Unit {0}
 OfInformation P (Failed s) = Unit {0}
 OfInformation P Malformed = Unit {0}
 OfInformation P (Profile p) = Unit {0}
-OfInformation P (Status q) = Unit {0}
+OfInformation P (Disc q) = Unit {0}
 OfInformation P (Information i) = P i
 OfInformation P (ProgressIndication p) = Unit {0}
 OfInformation P Unread = Unit {0}

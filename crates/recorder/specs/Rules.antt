@@ -16,15 +16,16 @@ use Rattle.mmc.specs.declared.order.Method.{Method}
 use Rattle.mmc.specs.declared.order.Method.the-variants.{Tao, Sao}
 use Rattle.recorder.specs.declared.script.Op.{Op}
 use Rattle.recorder.specs.declared.answers.Command.{Command}
+use Rattle.recorder.specs.declared.replies.DiscInformation.{DiscInformation}
 use Rattle.recorder.specs.declared.replies.TrackInformation.{TrackInformation}
 use Rattle.recorder.specs.declared.replies.Reading.{Reading}
-use Rattle.recorder.specs.declared.replies.Reading.the-variants.{Busy, NotReady, Failed, Malformed, Profile, Status, Information, ProgressIndication, Unread}
+use Rattle.recorder.specs.declared.replies.Reading.the-variants.{Busy, NotReady, Failed, Malformed, Profile, Disc, Information, ProgressIndication, Unread}
 use Rattle.recorder.specs.declared.exchanges.Seen.{Seen}
 use Rattle.recorder.specs.declared.rules.Verdict.{Verdict}
 use Rattle.recorder.specs.declared.rules.Verdict.the-variants as D
-use Rattle.recorder.specs.Replies.{ofInformation}
+use Rattle.recorder.specs.Replies.{ofDisc, ofInformation}
 use Rattle.recorder.specs.Answers.{Why, because, drive-failed, Ruling, issue, done, stop}
-use Rattle.recorder.specs.Script.{trackIn, polls, isPolled, stepwise, Block, script, ordered, closings}
+use Rattle.recorder.specs.Script.{trackIn, polls, erasing, isPolled, stepwise, Block, script, ordered, closings}
 use Rattle.recorder.specs.Exchanges.{Exchange, read, recorded, closed, polling, seen}
 
 -- ---- judgements
@@ -43,20 +44,21 @@ pub record Test : Type 0 where
 abbrev pub test : Bool → ℕ → Test
 test b n = record { applies = b; number = n }
 
--- "The lowest applying number is given": the first of these; without one the operation is answered
-abbrev pub tested : List Test → Judgement
-tested [] = onward []
-tested (t ∷ ts) = if (t .applies) (refused (because (t .number))) (tested ts)
+-- "The lowest applying number is given": the first of these; without one the operation is answered, and these operations come next
+abbrev pub tested : List Test → List Op → Judgement
+tested [] xs = onward xs
+tested (t ∷ ts) xs = if (t .applies) (refused (because (t .number))) (tested ts xs)
 
 -- what each case of a verdict says
 abbrev pub judgementIn : Verdict → Judgement
 judgementIn D.Again = again
 judgementIn D.Onward = onward []
 judgementIn D.Poll = onward polls
+judgementIn D.Erase = onward erasing
 judgementIn (D.Refused r) = refused (because (numberOf r))
 judgementIn (D.Failed s) = refused (drive-failed s)
 
--- ---- the numbers 5 to 10, of what was read
+-- ---- the numbers 5 to 10 and 16, of what was read
 
 -- 5: "the profile is neither 0009h nor 000Ah"
 unfoldable pub otherProfile : ℕ → Bool
@@ -99,6 +101,49 @@ lastFrame = lastAddress + leadFrames
 unfoldable pub fits : Method → ℕ → TrackInformation → Bool
 fits m s i = leb s (i .free .0) && leb (leadOut m s i) lastFrame
 
+-- "10 for S alone": the lead-out address where the first track starts at 0
+unfoldable pub overlong : Order → Bool
+overlong o = ltb lastAddress (still o 1)
+
+-- "a disc of status 1 or 2"
+unfoldable pub used : ℕ → Bool
+used status = eqb status 1 || eqb status 2
+
+-- 16: "disc of status 1 or 2, and either profile not 000Ah or Erasable .. clear"
+unfoldable pub notErasable : ℕ → DiscInformation → Bool
+notErasable p d = used (d .status) && (not (eqb p 0x000A) || not (d .erasable))
+
+-- ---- a reply to 51h, with flag bit 3
+
+-- "with the flag the order after the first 51h is 4, 5, 6 for status 3, 8, 9, 10 for S alone, 16"
+abbrev pub erasingTests : Order → ℕ → DiscInformation → List Test
+erasingTests o p d =
+    test (otherProfile p) 5
+    ∷ test (ltb 2 (d .status)) 6
+    ∷ test (mixedOrKept (o .method) o) 8
+    ∷ test (shortTrack o) 9
+    ∷ test (overlong o) 10
+    ∷ test (notErasable p d) 16
+    ∷ []
+
+-- "51h is asked anew and must say blank"
+abbrev pub blankTests : DiscInformation → List Test
+blankTests d = test (ltb 0 (d .status)) 6 ∷ []
+
+-- with the flag by whether an erasing took place; without it 51h is not tested
+abbrev pub discTests : Bool → Order → Seen → DiscInformation → List Test
+discTests erase o v d = if erase (if (v .erased) (blankTests d) (erasingTests o (v .profile) d)) []
+
+-- "With flag bit 3, a disc of status 1 or 2 is erased before recording", once
+abbrev pub erases : Bool → Bool → ℕ → Bool
+erases erase erased status = erase && (not erased && used status)
+
+abbrev pub erasingIf : Bool → List Op
+erasingIf due = if due erasing []
+
+abbrev pub judgeDisc : Order → Seen → DiscInformation → Judgement
+judgeDisc o v d = tested (discTests (o .erase) o v d) (erasingIf (erases (o .erase) (v .erased) (d .status)))
+
 -- ---- a reply to 52h, before the track t
 
 -- "5 to 10 are judged after the third"
@@ -116,8 +161,9 @@ openingTests o t v i =
 abbrev pub laterTests : Order → ℕ → Seen → TrackInformation → List Test
 laterTests o t v i = test (unusable (o .method) (v .at) i) 7 ∷ test (not (fits (o .method) (still o t) i)) 10 ∷ []
 
+-- with flag bit 3 the first too: "at the 52h 4, 7, 10"
 abbrev pub trackTests : Order → ℕ → Seen → TrackInformation → List Test
-trackTests o t v i = if (eqb t 1) (openingTests o t v i) (laterTests o t v i)
+trackTests o t v i = if (eqb t 1 && not (o .erase)) (openingTests o t v i) (laterTests o t v i)
 
 -- ---- any reply to an operation, by what was seen before
 
@@ -138,14 +184,15 @@ untested polled ready NotReady = onward []
 untested polled ready (Failed s) = refused (drive-failed s)
 untested polled ready Malformed = refused (because 4)
 untested polled ready (Profile p) = onward []
-untested polled ready (Status q) = onward []
+untested polled ready (Disc d) = onward []
 untested polled ready (Information i) = onward []
 untested polled ready (ProgressIndication n) = pollsIf (not (isLast ready n))
 untested polled ready Unread = pollsIf polled
 
--- track information is tested
+-- disc and track information are tested
 abbrev pub judge : Order → Seen → Op → Reading → Judgement
-judge o v x r = ofInformation (untested (isPolled (o .immed) x) (v .ready) r) (λ i. tested (trackTests o (trackIn x) v i)) r
+judge o v x r =
+    ofDisc (ofInformation (untested (isPolled (o .immed) x) (v .ready) r) (λ i. tested (trackTests o (trackIn x) v i) []) r) (judgeDisc o v) r
 
 -- an exchange, given those before it
 abbrev pub judged : Order → List Exchange → Exchange → Judgement

@@ -12,7 +12,7 @@ use Rattle.mmc.specs.declared.order.Track.{Track}
 use Rattle.mmc.specs.declared.order.Method.{Method}
 use Rattle.mmc.specs.declared.order.Method.the-variants.{Tao, Sao}
 use Rattle.recorder.specs.declared.script.Op.{Op}
-use Rattle.recorder.specs.declared.script.Op.the-variants.{GetConfiguration, ReadDiscInformation, ReadTrackInformation, ModeSelect, SendCueSheet, Write, SynchronizeCache, CloseTrack, CloseSession, TestUnitReady, RequestSense}
+use Rattle.recorder.specs.declared.script.Op.the-variants.{GetConfiguration, ReadDiscInformation, ReadTrackInformation, ModeSelect, SendCueSheet, Write, SynchronizeCache, CloseTrack, CloseSession, Blank, TestUnitReady, RequestSense}
 
 -- ---- an operation: a command without its address
 
@@ -27,6 +27,7 @@ code (Write t f k) = 0x2A
 code (SynchronizeCache t) = 0x35
 code (CloseTrack t) = 0x5B
 code CloseSession = 0x5B
+code Blank = 0xA1
 code TestUnitReady = 0x00
 code RequestSense = 0x03
 
@@ -41,6 +42,7 @@ trackIn (Write t f k) = t .0
 trackIn (SynchronizeCache t) = t .0
 trackIn (CloseTrack t) = t .0
 trackIn CloseSession = 0
+trackIn Blank = 0
 trackIn TestUnitReady = 0
 trackIn RequestSense = 0
 
@@ -55,6 +57,7 @@ ofWrite z g (Write t f k) = g (t .0) (f .0) (k .0)
 ofWrite z g (SynchronizeCache t) = z
 ofWrite z g (CloseTrack t) = z
 ofWrite z g CloseSession = z
+ofWrite z g Blank = z
 ofWrite z g TestUnitReady = z
 ofWrite z g RequestSense = z
 
@@ -77,9 +80,21 @@ isPoll x = eqb (code x) 0x00 || eqb (code x) 0x03
 abbrev pub polls : List Op
 polls = TestUnitReady ∷ RequestSense ∷ []
 
--- "With flag bit 2, Immed is set in 35h .. and 5Bh": these are polled
+-- A1h erases the disc
+abbrev pub isErasing : Op → Bool
+isErasing x = eqb (code x) 0xA1
+
+-- "a disc of status 1 or 2 is erased before recording by A1h ..  Afterwards 51h is asked anew"
+abbrev pub erasing : List Op
+erasing = Blank ∷ ReadDiscInformation ∷ []
+
+-- "With flag bit 2, Immed is set in 35h .. and 5Bh", and in A1h ("11h with Ask 1's flag")
+abbrev pub takesImmed : Op → Bool
+takesImmed x = isClosing x || isErasing x
+
+-- these are polled
 abbrev pub isPolled : Bool → Op → Bool
-isPolled immed x = isClosing x && immed
+isPolled immed x = takesImmed x && immed
 
 -- each element's part, one after another
 abbrev pub gather : {A B : Type 0} → (A → List B) → List A → List B

@@ -5,6 +5,7 @@ ghost use mathlib.Core.List.{[]};
 ghost use Rattle.recorder.specs.Answers.{madeFor, cdbOf};
 use crate::replies::Sense;
 use crate::script::Op;
+use mmc::commands::blank;
 use mmc::commands::close_track_session;
 use mmc::commands::get_configuration;
 use mmc::commands::mode_select;
@@ -60,6 +61,7 @@ fn make_command(immed: bool, tracks: u8, c: Command, out: &mut [u8]) -> Made
         Op::SynchronizeCache(_) => synchronize_cache(immed, out),
         Op::CloseTrack(_) => close_track_session(immed, 1, TrackNumber(0xFF), out),
         Op::CloseSession => close_track_session(immed, 2, TrackNumber(0), out),
+        Op::Blank => blank(immed, out),
         Op::TestUnitReady => test_unit_ready(out),
         Op::RequestSense => request_sense(out),
     }

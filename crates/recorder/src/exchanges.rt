@@ -8,18 +8,20 @@ use crate::replies::Reading;
 use crate::replies::TrackInformation;
 use crate::script::Op;
 use crate::script::asks_ready;
-use crate::script::is_closing;
+use crate::script::is_erasing;
+use crate::script::takes_immed;
 use mmc::order::Method;
 use mmc::units::BlockAddress;
 use mmc::units::FrameCount;
 
 // What the rules look at in the replies so far: the profile, the disc status, and the frames to where the next block goes (address
 // plus 150): the address of the latest READ TRACK INFORMATION in a track at once, or the end of the last WRITE; whether TEST UNIT READY was
-// answered good and nothing but busy since. Beside these the latest progress of a polling, which the panel shows.
+// answered good and nothing but busy since; whether the disc was erased. Beside these the latest progress of a polling, which the panel shows.
 pub struct Seen {
     pub profile: u16,
     pub status: u8,
     pub at: FrameCount,
+    pub erased: bool,
     pub ready: bool,
     pub progress: u16,
 }
@@ -64,16 +66,17 @@ fn past_op(op: Op, at: FrameCount) -> FrameCount
         Op::SynchronizeCache(_) => at,
         Op::CloseTrack(_) => at,
         Op::CloseSession => at,
+        Op::Blank => at,
         Op::TestUnitReady => at,
         Op::RequestSense => at,
     }
 }
 
-// The latest progress after an operation: a closing begins anew.
+// The latest progress after an operation: one that takes Immed begins anew.
 fn progress_past(op: Op, progress: u16) -> u16
     ensures { λ r. ⌜ r ≡ progressPast op progress ⌝ }
 {
-    if is_closing(op) { 0 } else { progress }
+    if takes_immed(op) { 0 } else { progress }
 }
 
 // The same, but for the answer to TEST UNIT READY.
@@ -85,6 +88,7 @@ fn unready(v: Seen) -> Seen
         profile: v.profile,
         status: v.status,
         at: at,
+        erased: v.erased,
         ready: false,
         progress: v.progress,
     }
@@ -106,13 +110,15 @@ pub(crate) fn see_reply(m: Method, op: Op, v: Seen, reading: Reading) -> Seen
             profile: p,
             status: v.status,
             at: at,
+            erased: v.erased,
             ready: false,
             progress: v.progress,
         },
-        Reading::Status(q) => Seen {
+        Reading::Disc(d) => Seen {
             profile: v.profile,
-            status: q,
+            status: d.status,
             at: at,
+            erased: v.erased,
             ready: false,
             progress: v.progress,
         },
@@ -120,6 +126,7 @@ pub(crate) fn see_reply(m: Method, op: Op, v: Seen, reading: Reading) -> Seen
             profile: v.profile,
             status: v.status,
             at: start_at(m, at, i),
+            erased: v.erased,
             ready: false,
             progress: v.progress,
         },
@@ -127,6 +134,7 @@ pub(crate) fn see_reply(m: Method, op: Op, v: Seen, reading: Reading) -> Seen
             profile: v.profile,
             status: v.status,
             at: at,
+            erased: v.erased,
             ready: false,
             progress: n,
         },
@@ -134,6 +142,7 @@ pub(crate) fn see_reply(m: Method, op: Op, v: Seen, reading: Reading) -> Seen
             profile: v.profile,
             status: v.status,
             at: past_op(op, at),
+            erased: is_erasing(op) || v.erased,
             ready: asks_ready(op),
             progress: progress_past(op, v.progress),
         },

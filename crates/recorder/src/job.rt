@@ -5,7 +5,7 @@ ghost use mathlib.Core.List.{[]};
 ghost use Rattle.recorder.specs.Answers.{issue, said, cdbOf};
 ghost use Rattle.recorder.specs.declared.job.Phase.the-variants.{Going};
 ghost use Rattle.recorder.specs.History.{Takes, Gives, Rests};
-ghost use Rattle.recorder.specs.Job.{dueAt, inOrder, inTime, inPiece, isWrite, standsAt, standsIn, standsPolled, restsAt, validOf, Prepared, commandOf, turnIn, advanced, onwardBy, turnOf, oneMore, stateOf, nextIn, nextOf, stepOf, opening};
+ghost use Rattle.recorder.specs.Job.{dueAt, inOrder, inTime, inPiece, isWrite, standsAt, standsIn, standsPolled, standsErasing, restsAt, validOf, Prepared, commandOf, turnIn, advanced, onwardBy, turnOf, oneMore, stateOf, nextIn, nextOf, stepOf, opening};
 use crate::answers::Answer;
 use crate::answers::Cdb;
 use crate::answers::Command;
@@ -22,9 +22,10 @@ use crate::replies::read_reply;
 use crate::rules::Verdict;
 use crate::rules::judge_reply;
 use crate::script::Op;
-use crate::script::is_closing;
+use crate::script::is_erasing;
 use crate::script::is_stepwise;
 use crate::script::portion_of;
+use crate::script::takes_immed;
 use crate::script::track_of;
 use mmc::order::Method;
 use mmc::order::Order;
@@ -175,6 +176,7 @@ fn stands_at(m: Method, tracks: u8, length: u32, next: u32, place: Op, at: Frame
         Op::SynchronizeCache(_) => begun,
         Op::CloseTrack(_) => closed,
         Op::CloseSession => stepwise,
+        Op::Blank => true,
         Op::TestUnitReady => false,
         Op::RequestSense => false,
     }
@@ -193,16 +195,23 @@ fn stands_in(m: Method, tracks: u8, length: u32, next: u32, place: Op, at: Frame
     stands_at(m, tracks, length, next, place, at)
 }
 
-// Whether an operation can be polled where it is: with Immed one that closes.
+// Whether an operation can be polled where it is: with the flag one that takes Immed.
 fn stands_polled(immed: bool, place: Op, poll: Poll) -> bool
     ensures { λ r. ⌜ r ≡ standsPolled immed place poll ⌝ }
 {
-    let polled = both(is_closing(place), immed);
+    let polled = both(takes_immed(place), immed);
     match poll {
         Poll::Off => true,
         Poll::Ready => polled,
         Poll::Sense => polled,
     }
+}
+
+// Whether an operation can stand in an order that lets the disc be erased, or does not.
+fn stands_erasing(erase: bool, place: Op) -> bool
+    ensures { λ r. ⌜ r ≡ standsErasing erase place ⌝ }
+{
+    !is_erasing(place) || erase
 }
 
 // Whether no reply is awaited: before an order, and after the end of a job.
@@ -351,6 +360,11 @@ fn turn(o: Order, s: Progress, length: u32, next: u32, reading: Reading) -> Move
             poll: Poll::Ready,
             seen: see_reply(m, op, v, reading),
         }),
+        Verdict::Erase => Move::Onward(Progress {
+            place: Op::Blank,
+            poll: Poll::Off,
+            seen: see_reply(m, op, v, reading),
+        }),
         Verdict::Refused(r) => Move::Halt(r),
         Verdict::Failed(x) => Move::Fail(x),
     }
@@ -367,6 +381,7 @@ fn opening_at() -> Progress
             profile: 0,
             status: 0,
             at: FrameCount(0),
+            erased: false,
             ready: false,
             progress: 0,
         },
@@ -420,10 +435,9 @@ impl Recorder {
         let track = track_of(place) as u32;
         let length = piece_length(o, track);
         let next = piece_length(o, track + 1);
-        both(
-            stands_polled(o.immed, place, poll),
-            stands_in(m, o.count, length, next, place, at),
-        )
+        let erasing = stands_erasing(o.erase, place);
+        let within = stands_in(m, o.count, length, next, place, at);
+        both(stands_polled(o.immed, place, poll), both(erasing, within))
     }
 
     // A reply to the latest command goes in: 3 for a state that fails the test, 13 for a job that has ended or an idle recorder, both
@@ -446,7 +460,9 @@ impl Recorder {
         let length = piece_length(o, track);
         let next = piece_length(o, track + 1);
         let polled = stands_polled(o.immed, place, poll);
-        if !both(polled, stands_in(m, o.count, length, next, place, at)) {
+        let erasing = stands_erasing(o.erase, place);
+        let within = stands_in(m, o.count, length, next, place, at);
+        if !both(polled, both(erasing, within)) {
             return answered(self, Answer::Stop(Refusal::FieldValue));
         }
         let reading = read_reply(due_at(place, poll), good, bytes);

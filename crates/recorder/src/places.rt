@@ -89,6 +89,7 @@ fn block_after(op: Op) -> u32
         Op::SynchronizeCache(_) => 0,
         Op::CloseTrack(_) => 0,
         Op::CloseSession => 0,
+        Op::Blank => 0,
         Op::TestUnitReady => 0,
         Op::RequestSense => 0,
     }
@@ -149,6 +150,7 @@ pub(crate) fn op_after(m: Method, tracks: u8, length: u32, next: u32, op: Op) ->
         Op::SynchronizeCache(_) => synchronized,
         Op::CloseTrack(_) => Following::Next(closed),
         Op::CloseSession => Following::Nothing,
+        Op::Blank => Following::Next(Op::ReadDiscInformation),
         Op::TestUnitReady => Following::Nothing,
         Op::RequestSense => Following::Nothing,
     }

@@ -3,7 +3,7 @@ ghost use mathlib.Core.Path.{_≡_};
 ghost use Prim.Native.Nat.{_≤_};
 ghost use lib.ListN.{length};
 ghost use Rattle.mmc.specs.ReplyBlock.{replyOf};
-ghost use Rattle.recorder.specs.Replies.{hasSense, senseOf, notReady, longWrite, readFailed, readUnready, readProfile, readStatus, informationOf, readInformation, progressOf, readProgress, readGood, failedBy, reading};
+ghost use Rattle.recorder.specs.Replies.{hasSense, senseOf, notReady, longWrite, readFailed, readUnready, readProfile, discOf, readDisc, informationOf, readInformation, progressOf, readProgress, readGood, failedBy, reading};
 use crate::script::Op;
 use crate::script::asks_ready;
 use mmc::bytes::byte_at;
@@ -17,6 +17,12 @@ pub struct Sense {
     pub key: u8,
     pub asc: u8,
     pub ascq: u8,
+}
+
+// The fields of a disc: its status, and whether it can be erased.
+pub struct DiscInformation {
+    pub status: u8,
+    pub erasable: bool,
 }
 
 // The fields of a track that is about to be written: Damage, NWA_V, Next Writable Address, Free Blocks.
@@ -35,7 +41,7 @@ pub enum Reading {
     Failed(Sense),
     Malformed,
     Profile(u16),
-    Status(u8),
+    Disc(DiscInformation),
     Information(TrackInformation),
     ProgressIndication(u16),
     Unread,
@@ -133,9 +139,21 @@ fn read_profile(bytes: &[u8]) -> Reading
     Reading::Profile(number16(&bytes[6..]) as u16)
 }
 
-// Reads a good reply to READ DISC INFORMATION: the disc status.
-fn read_status(bytes: &[u8]) -> Reading
-    ensures { λ r. ⌜ r ≡ readStatus (now (bytes .entry)) ⌝ }
+// The fields of a whole reply to READ DISC INFORMATION.
+fn disc_of(bytes: &[u8]) -> DiscInformation
+    requires { ⌜ 34 ≤ length (now bytes) ⌝ }
+    ensures { λ r. ⌜ r ≡ discOf (now (bytes .entry)) ⌝ }
+{
+    let fields = byte_at(bytes, 2);
+    DiscInformation {
+        status: (fields % 4) as u8,
+        erasable: fields / 16 % 2 == 1,
+    }
+}
+
+// Reads a good reply to READ DISC INFORMATION: its fields.
+fn read_disc(bytes: &[u8]) -> Reading
+    ensures { λ r. ⌜ r ≡ readDisc (now (bytes .entry)) ⌝ }
 {
     if bytes.len() < 34 {
         return Reading::Malformed;
@@ -143,11 +161,10 @@ fn read_status(bytes: &[u8]) -> Reading
     if number16(bytes) < 32 {
         return Reading::Malformed;
     }
-    let status = byte_at(bytes, 2);
-    if status / 32 != 0 {
+    if byte_at(bytes, 2) / 32 != 0 {
         return Reading::Malformed;
     }
-    Reading::Status((status % 4) as u8)
+    Reading::Disc(disc_of(bytes))
 }
 
 // The fields of a whole reply to READ TRACK INFORMATION.
@@ -208,7 +225,7 @@ fn read_good(op: Op, bytes: &[u8]) -> Reading
 {
     match op {
         Op::GetConfiguration => read_profile(bytes),
-        Op::ReadDiscInformation => read_status(bytes),
+        Op::ReadDiscInformation => read_disc(bytes),
         Op::ReadTrackInformation(_) => read_information(bytes),
         Op::ModeSelect(_) => Reading::Unread,
         Op::SendCueSheet => Reading::Unread,
@@ -220,6 +237,7 @@ fn read_good(op: Op, bytes: &[u8]) -> Reading
         Op::SynchronizeCache(_) => Reading::Unread,
         Op::CloseTrack(_) => Reading::Unread,
         Op::CloseSession => Reading::Unread,
+        Op::Blank => Reading::Unread,
         Op::TestUnitReady => Reading::Unread,
         Op::RequestSense => read_progress(bytes),
     }

@@ -1,19 +1,20 @@
-// The judgement of a reply: what the rules look at, and the numbers 4 to 10 and 12.
+// The judgement of a reply: what the rules look at, and the numbers 4 to 10, 12 and 16.
 ghost use mathlib.Core.Path.{_≡_};
 ghost use mathlib.Core.List.{[], _∷_};
 ghost use Prim.Native.Nat.{_≤_, _<_, _^_};
 ghost use Rattle.mmc.specs.Times.{framesTo};
 ghost use Rattle.recorder.specs.Replies.{Unsigned, UnsignedIn, ForTrack};
 ghost use Rattle.recorder.specs.Script.{trackIn, isPolled};
-ghost use Rattle.recorder.specs.Rules.{otherProfile, unsuitable, unusable, mixedOrKept, fits, test, tested, trackTests, pollsIf, isLast, judgementIn, untested, judge};
+ghost use Rattle.recorder.specs.Rules.{otherProfile, unsuitable, unusable, mixedOrKept, fits, overlong, used, notErasable, test, tested, erasingTests, erasingIf, judgeDisc, trackTests, pollsIf, isLast, onward, judgementIn, untested, judge};
 use crate::exchanges::Seen;
 use crate::exchanges::frames_to;
+use crate::replies::DiscInformation;
 use crate::replies::Reading;
 use crate::replies::Sense;
 use crate::replies::TrackInformation;
 use crate::script::Op;
-use crate::script::is_closing;
 use crate::script::is_stepwise;
+use crate::script::takes_immed;
 use crate::script::track_of;
 use mmc::order::Method;
 use mmc::order::Order;
@@ -24,16 +25,19 @@ use mmc::refusals::Refusal;
 use mmc::units::BlockSum;
 use mmc::units::FrameCount;
 
-// How a reply is judged: the same command again, onward, onward with a round of polls first, or a stop.
+// How a reply is judged: the same command again, onward, onward with a round of polls or an erasing first, or a stop.
 pub(crate) enum Verdict {
     Again,
     Onward,
     Poll,
+    Erase,
     Refused(Refusal),
     Failed(Sense),
 }
 
-// The frames before address 0, and the frames to the last address of a lead-out.
+// The last address of a lead-out, the frames before address 0, and the frames to that last address.
+const LAST_ADDRESS: u64 = 449849;
+
 const LEAD_FRAMES: u64 = 150;
 
 const LAST_FRAME: u64 = 449999;
@@ -107,6 +111,36 @@ fn it_fits(m: Method, blocks: BlockSum, start: u64, i: TrackInformation) -> bool
     }
 }
 
+// Whether a disc can be erased, where it has to be: it is appendable or finalized.
+fn is_used(status: u8) -> bool
+    ensures { λ r. ⌜ r ≡ used status ⌝ }
+{
+    if status == 1 {
+        return true;
+    }
+    status == 2
+}
+
+// 16: a used disc that is no CD-RW, or not erasable.
+fn not_erasable(profile: u16, d: DiscInformation) -> bool
+    ensures { λ r. ⌜ r ≡ notErasable profile d ⌝ }
+{
+    if !is_used(d.status) {
+        return false;
+    }
+    if profile != 0x000A {
+        return true;
+    }
+    !d.erasable
+}
+
+// 10 before an erasing: the blocks of all tracks alone go past the last lead-out.
+fn over_long(o: Order) -> bool
+    ensures { λ r. ⌜ r ≡ overlong o ⌝ }
+{
+    LAST_ADDRESS < blocks_after(o, 0).0
+}
+
 // The first of the numbers 5 to 10 that applies.
 fn first_of(
     profile: bool,
@@ -116,7 +150,7 @@ fn first_of(
     short: bool,
     full: bool,
 ) -> Verdict
-    ensures { λ r. ⌜ judgementIn r ≡ tested (test profile 5 ∷ test status 6 ∷ test track 7 ∷ test order 8 ∷ test short 9 ∷ test full 10 ∷ []) ⌝ }
+    ensures { λ r. ⌜ judgementIn r ≡ tested (test profile 5 ∷ test status 6 ∷ test track 7 ∷ test order 8 ∷ test short 9 ∷ test full 10 ∷ []) [] ⌝ }
 {
     if profile {
         return Verdict::Refused(Refusal::Profile);
@@ -139,11 +173,50 @@ fn first_of(
     Verdict::Onward
 }
 
-// Judges READ TRACK INFORMATION before a track: that of the first judges 5 to 10, a later one 7 and 10.
+// Onward, with an erasing first or without.
+fn erasing_if(due: bool) -> Verdict
+    ensures { λ r. ⌜ judgementIn r ≡ onward (erasingIf due) ⌝ }
+{
+    if due { Verdict::Erase } else { Verdict::Onward }
+}
+
+// Judges the first READ DISC INFORMATION of a job that may erase the disc: 5 to 10 as far as they are known, and 16.
+fn judge_used(o: Order, profile: u16, d: DiscInformation) -> Verdict
+    ensures { λ r. ⌜ judgementIn r ≡ tested (erasingTests o profile d) (erasingIf (used (d .status))) ⌝ }
+{
+    let other = other_profile(profile);
+    let order = mixed_or_kept(o);
+    let short = !all_long(o);
+    let full = over_long(o);
+    let fault = first_of(other, 2 < d.status, false, order, short, full);
+    let Verdict::Onward = fault else {
+        return fault;
+    };
+    if not_erasable(profile, d) {
+        return Verdict::Refused(Refusal::NotErasable);
+    }
+    erasing_if(is_used(d.status))
+}
+
+// Judges READ DISC INFORMATION: with the flag 5 to 16 before an erasing, and after it that the disc is blank.
+fn judge_disc(o: Order, v: Seen, d: DiscInformation) -> Verdict
+    ensures { λ r. ⌜ judgementIn r ≡ judgeDisc o v d ⌝ }
+{
+    if !o.erase {
+        return Verdict::Onward;
+    }
+    if v.erased {
+        return first_of(false, 0 < d.status, false, false, false, false);
+    }
+    judge_used(o, v.profile, d)
+}
+
+// Judges READ TRACK INFORMATION before a track: that of the first judges 5 to 10, a later one 7 and 10. So does the first of a job that may
+// erase the disc, where the others were judged before.
 fn judge_track(o: Order, track: u16, v: Seen, i: TrackInformation) -> Verdict
     requires { ⌜ 1 ≤ track ⌝ }
     requires { ⌜ Unsigned (i .address) ⌝ }
-    ensures { λ r. ⌜ judgementIn r ≡ tested (trackTests o track v i) ⌝ }
+    ensures { λ r. ⌜ judgementIn r ≡ tested (trackTests o track v i) [] ⌝ }
 {
     let m = o.method;
     let at = v.at;
@@ -151,7 +224,7 @@ fn judge_track(o: Order, track: u16, v: Seen, i: TrackInformation) -> Verdict
     let start = frames_to(address);
     let unusable = unusable_track(m, at, start, i);
     let full = !it_fits(m, blocks_after(o, track as usize - 1), start, i);
-    if track != 1 {
+    if track != 1 || o.erase {
         return first_of(false, false, unusable, false, false, full);
     }
     let profile = other_profile(v.profile);
@@ -161,11 +234,11 @@ fn judge_track(o: Order, track: u16, v: Seen, i: TrackInformation) -> Verdict
     first_of(profile, status, unusable, order, short, full)
 }
 
-// Whether an operation is polled: one that closes, with Immed.
+// Whether an operation is polled: one that takes Immed, with the flag.
 fn is_polled(immed: bool, op: Op) -> bool
     ensures { λ r. ⌜ r ≡ isPolled immed op ⌝ }
 {
-    if is_closing(op) {
+    if takes_immed(op) {
         return immed;
     }
     false
@@ -198,19 +271,22 @@ fn verdict_of(polled: bool, ready: bool, reading: Reading) -> Verdict
         Reading::Failed(x) => Verdict::Failed(x),
         Reading::Malformed => Verdict::Refused(Refusal::ReplyForm),
         Reading::Profile(_) => Verdict::Onward,
-        Reading::Status(_) => Verdict::Onward,
+        Reading::Disc(_) => Verdict::Onward,
         Reading::Information(_) => Verdict::Onward,
         Reading::ProgressIndication(n) => polls_if(!is_last(ready, n)),
         Reading::Unread => polls_if(polled),
     }
 }
 
-// Judges a reply to an operation: track information is tested.
+// Judges a reply to an operation: disc and track information are tested.
 pub(crate) fn judge_reply(o: Order, op: Op, v: Seen, reading: Reading) -> Verdict
     requires { ⌜ UnsignedIn reading ⌝ }
     requires { ⌜ ForTrack (trackIn op) reading ⌝ }
     ensures { λ r. ⌜ judgementIn r ≡ judge o v op reading ⌝ }
 {
+    if let Reading::Disc(d) = reading {
+        return judge_disc(o, v, d);
+    }
     let Reading::Information(i) = reading else {
         return verdict_of(is_polled(o.immed, op), v.ready, reading);
     };

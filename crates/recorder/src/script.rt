@@ -1,12 +1,13 @@
 // The operations of a job.
 ghost use mathlib.Core.Path.{_≡_};
-ghost use Rattle.recorder.specs.Script.{portion, stepwise, trackIn, isClosing, asksReady};
+ghost use Rattle.recorder.specs.Script.{portion, stepwise, trackIn, asksReady, isErasing, takesImmed};
 use mmc::order::Method;
 use mmc::units::BlockCount;
 use mmc::units::TrackNumber;
 
 // A command without its address. A WRITE has its track (0: the pause), its first block there, from 0 on, and its count; MODE SELECT
-// is for a track, READ TRACK INFORMATION comes before one, SYNCHRONIZE CACHE and the closing of a track after one. The last two poll.
+// is for a track, READ TRACK INFORMATION comes before one, SYNCHRONIZE CACHE and the closing of a track after one. BLANK erases the disc. The last
+// two poll.
 pub enum Op {
     GetConfiguration,
     ReadDiscInformation,
@@ -21,6 +22,7 @@ pub enum Op {
     SynchronizeCache(TrackNumber),
     CloseTrack(TrackNumber),
     CloseSession,
+    Blank,
     TestUnitReady,
     RequestSense,
 }
@@ -54,14 +56,15 @@ pub fn track_of(op: Op) -> u16
         Op::SynchronizeCache(t) => t.0,
         Op::CloseTrack(t) => t.0,
         Op::CloseSession => 0,
+        Op::Blank => 0,
         Op::TestUnitReady => 0,
         Op::RequestSense => 0,
     }
 }
 
-// Whether an operation closes a track or the session, or forces the cache out.
-pub(crate) fn is_closing(op: Op) -> bool
-    ensures { λ r. ⌜ r ≡ isClosing op ⌝ }
+// Whether an operation has an Immed bit: it closes a track or the session, forces the cache out, or erases the disc.
+pub(crate) fn takes_immed(op: Op) -> bool
+    ensures { λ r. ⌜ r ≡ takesImmed op ⌝ }
 {
     match op {
         Op::GetConfiguration => false,
@@ -77,6 +80,7 @@ pub(crate) fn is_closing(op: Op) -> bool
         Op::SynchronizeCache(_) => true,
         Op::CloseTrack(_) => true,
         Op::CloseSession => true,
+        Op::Blank => true,
         Op::TestUnitReady => false,
         Op::RequestSense => false,
     }
@@ -100,7 +104,32 @@ pub(crate) fn asks_ready(op: Op) -> bool
         Op::SynchronizeCache(_) => false,
         Op::CloseTrack(_) => false,
         Op::CloseSession => false,
+        Op::Blank => false,
         Op::TestUnitReady => true,
+        Op::RequestSense => false,
+    }
+}
+
+// Whether an operation erases the disc.
+pub(crate) fn is_erasing(op: Op) -> bool
+    ensures { λ r. ⌜ r ≡ isErasing op ⌝ }
+{
+    match op {
+        Op::GetConfiguration => false,
+        Op::ReadDiscInformation => false,
+        Op::ReadTrackInformation(_) => false,
+        Op::ModeSelect(_) => false,
+        Op::SendCueSheet => false,
+        Op::Write {
+            track: _,
+            first: _,
+            count: _,
+        } => false,
+        Op::SynchronizeCache(_) => false,
+        Op::CloseTrack(_) => false,
+        Op::CloseSession => false,
+        Op::Blank => true,
+        Op::TestUnitReady => false,
         Op::RequestSense => false,
     }
 }
