@@ -49,15 +49,15 @@ after x g r f =
 
 -- ---- where the plan stands
 
-pub record Wipes (o : Order) (f : Facts) : Type 0 where
+pub record Wipes (o : Order) (p : ℕ) (d : DiscInformation) (was : Bool) : Type 0 where
   pub flagged : o .erase ≡ true
   pub recordable : Recordable o
-  pub cd-rw : f .profile ≡ 0x000A
-  pub passes-5 : otherProfile (f .profile) ≡ false
-  pub erasable : f .disc .erasable ≡ true
-  pub not-blank : 1 ≤ f .disc .status
-  pub at-most-2 : f .disc .status ≤ 2
-  pub once : f .erased ≡ false
+  pub cd-rw : p ≡ 0x000A
+  pub passes-5 : otherProfile (p) ≡ false
+  pub erasable : d .erasable ≡ true
+  pub not-blank : 1 ≤ d .status
+  pub at-most-2 : d .status ≤ 2
+  pub once : was ≡ false
 
 abbrev pub Flagged : Order → Type 0
 Flagged o = (o .erase ≡ true) × Recordable o
@@ -70,7 +70,7 @@ pub record Blanked (o : Order) (f : Facts) : Type 0 where
 pub data Stage (o : Order) (f : Facts) : List Op → Type 0 where
   first : {l : List Op} → Past l → f .erased ≡ false → f .unblank ≡ false → Stage o f (GetConfiguration ∷ ReadDiscInformation ∷ l)
   asked : {l : List Op} → Past l → f .erased ≡ false → f .unblank ≡ false → Stage o f (ReadDiscInformation ∷ l)
-  wiping : {l : List Op} → Past l → Wipes o f → Stage o f (Blank ∷ ReadDiscInformation ∷ l)
+  wiping : {l : List Op} → Past l → Wipes o (f .profile) (f .disc) (f .erased) → Stage o f (Blank ∷ ReadDiscInformation ∷ l)
   asking : {l : List Op} → Past l → f .erased ≡ true → Flagged o → Stage o f (TestUnitReady ∷ RequestSense ∷ ReadDiscInformation ∷ l)
   hearing : {l : List Op} → Past l → f .erased ≡ true → Flagged o → Stage o f (RequestSense ∷ ReadDiscInformation ∷ l)
   anew : {l : List Op} → Past l → f .erased ≡ true → Flagged o → Stage o f (ReadDiscInformation ∷ l)
@@ -88,7 +88,7 @@ unfolding overlong
 recordable-so o p d c = record { alike = c .1 .1 .0; long = not-false _ (c .1 .1 .1 .0); ends = ltb-false _ _ (c .1 .1 .1 .1 .0) }
 
 -- a used disc that 16 lets pass is a CD-RW that is erasable
-rightly : (o : Order) (f : Facts) (d : DiscInformation) → o .erase ≡ true → f .erased ≡ false → Clear (erasingTests o (f .profile) d) → used (d .status) ≡ true → Wipes o (after ReadDiscInformation true (Disc d) f)
+rightly : (o : Order) (f : Facts) (d : DiscInformation) → o .erase ≡ true → f .erased ≡ false → Clear (erasingTests o (f .profile) d) → used (d .status) ≡ true → Wipes o (f .profile) d (f .erased)
 unfolding notErasable used
 rightly o f d e n c u =
     let q = neither (not (eqb (f .profile) 0x000A)) (not (d .erasable)) (ap (λ (b : Bool). b && (not (eqb (f .profile) 0x000A) || not (d .erasable))) (sym u) ∙ c .1 .1 .1 .1 .1 .0) in
@@ -167,7 +167,7 @@ past-turn p b q x l j asks z = z .1
 past-turn p b q x l j polls-on z = (refl, (refl, z .1))
 past-turn p b q x l j polls-end z = z .1
 
-not-erasing : (x : Op) → isOfDisc x ≡ false → isErasing x ≡ false
+pub not-erasing : (x : Op) → isOfDisc x ≡ false → isErasing x ≡ false
 not-erasing x e = neither (eqb (code x) 0x51) (isErasing x) e .1
 
 -- and the disc stays as it is
@@ -253,7 +253,7 @@ abbrev pub isLater : Op → Bool
 isLater x = eqb (code x) 0x52 || eqb (code x) 0x2A
 
 module _ (o : Order) (f : Facts) where
-  at-erasing : (x : Op) (l : List Op) → isErasing x ≡ true → Stage o f (x ∷ l) → Wipes o f
+  at-erasing : (x : Op) (l : List Op) → isErasing x ≡ true → Stage o f (x ∷ l) → Wipes o (f .profile) (f .disc) (f .erased)
   at-erasing x l e (first z n u) = absurd (false-true e)
   at-erasing x l e (asked z n u) = absurd (false-true e)
   at-erasing x l e (wiping z w) = w

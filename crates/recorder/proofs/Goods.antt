@@ -2,8 +2,10 @@
 use mathlib.Core.Path.{_≡_, refl, sym, ap, subst, _∙_}
 use mathlib.Core.Bool.{Bool, true, false, _&&_, _||_}
 use mathlib.Core.List.{List, [], _∷_}
-use Prim.Native.Nat.{ℕ, suc, _+_, _≤_, _<_}
+use Prim.Native.Nat.{ℕ, suc, _+_, _*_, _≤_, _<_}
 use native.Mathlib.Omega.{arith}
+use borrow.Author.Tests.{eqb-true}
+use lib.Dec.{eqb}
 use lib.ListN.{length}
 use Rattle.mmc.specs.Bytes.{if}
 use Rattle.mmc.specs.Refusals.{Outcome, pass}
@@ -12,15 +14,16 @@ use Rattle.mmc.specs.ReplyBlock.{Reply}
 use Rattle.mmc.specs.declared.order.Order.{Order}
 use Rattle.recorder.specs.declared.script.Op.{Op}
 use Rattle.recorder.specs.Answers.{Ruling, issue, done, stop}
-use Rattle.recorder.specs.Script.{isClosing, asksReady, isPoll, isPolled, script, expected}
-use Rattle.recorder.specs.Exchanges.{Exchange, ends, polling}
+use Rattle.recorder.specs.Script.{code, asksReady, isPoll, isErasing, takesImmed, isPolled, beforeTracks, eachTrack, script, expected}
+use Rattle.recorder.specs.Exchanges.{Exchange, ends, polling, erased}
 use Rattle.recorder.specs.Rules.{Judgement, move, judged, left, none, refusedBy, firstRefused, ruled, exchanged, play}
-use Rattle.recorder.specs.History.{commandIn, going, as-done, ending, AllWell, unpolled, answered}
+use Rattle.recorder.specs.History.{commandIn, going, as-done, ending, exactCount, AllWell, unpolled, answered}
 use Rattle.recorder.proofs.Lists.{if-yes, if-no, false-true, none-found, clash}
-use Rattle.recorder.proofs.Turns.{made, Played, nothing, then, played, Turn, repeats, refuses, works, polls-begin, asks, polls-on, polls-end, turn}
-use Rattle.recorder.proofs.Plans.{Scripted}
-use Rattle.recorder.proofs.Scripts.{script-length, scripted}
-use Rattle.recorder.proofs.Rulings.{unrefused-last, ruled-at, rule-done, due-poll}
+use Rattle.recorder.proofs.Turns.{made, Played, nothing, then, played, Turn, repeats, refuses, works, polls-begin, erases-first, asks, polls-on, polls-end, turn}
+use Rattle.recorder.proofs.Plans.{Unclosed, Scripted, Shape, working}
+use Rattle.recorder.proofs.Scripts.{Past, script-past, script-length, scripted}
+use Rattle.recorder.proofs.Rulings.{unrefused-last, ruled-at, plan-shape, rule-done, due-poll}
+use Rattle.recorder.proofs.Erasing.{Facts, facts, Stage, first, asked, wiping, asking, hearing, anew, past, not-erasing, stage, rightly-erased}
 
 -- ---- each reply makes an exchange until the end
 
@@ -64,26 +67,74 @@ weighed false n = omega arith
 taken : (x : Op) (l : List Op) → isPoll x ≡ false → counted l + weight x ≡ counted (x ∷ l)
 taken x l n = sym (weighed (isPoll x) (counted l))
 
--- each reply takes one of them off what is left, if it answers one
-taken-turn : (p b q : Bool) (x : Op) (l : List Op) (j : Judgement) → Turn p x b q j → b || asksReady x ≡ true → refusedBy j ≡ none → counted (move j (x ∷ l)) + weight x ≡ counted (x ∷ l)
+-- ---- the erasings among them, each of which brings a 51h more
+
+abbrev one : Bool → ℕ
+one b = if b 1 0
+
+abbrev erasings : List Op → ℕ
+erasings [] = 0
+erasings (x ∷ l) = one (isErasing x) + erasings l
+
+none-past : (l : List Op) → Past l → erasings l ≡ 0
+none-past [] z = refl
+none-past (x ∷ l) z =
+    let i = none-past l (z .1) in
+    let a : one (isErasing x) ≡ 0 = ap one (not-erasing x (z .0)) in
+    omega arith
+
+-- each reply takes one of them off what is left, if it answers one, or puts two in front
+taken-turn : (p b q : Bool) (x : Op) (l : List Op) (j : Judgement) → Turn p x b q j → b || asksReady x ≡ true → refusedBy j ≡ none → counted (move j (x ∷ l)) + weight x + 2 * erasings (x ∷ l) ≡ counted (x ∷ l) + 2 * (one (isErasing x) + erasings (move j (x ∷ l)))
 taken-turn p b q x l j (repeats n) g u = absurd (false-true (sym n ∙ g))
 taken-turn p b q x l j (refuses k) g u = absurd (none-found _ (sym u))
-taken-turn p b q x l j (works n) g u = taken x l n
-taken-turn p b q x l j (polls-begin n) g u = taken x l n
+taken-turn p b q x l j (works n) g u = let a = taken x l n in omega arith
+taken-turn p b q x l j (polls-begin n) g u = let a = taken x l n in omega arith
+taken-turn p b q x l j erases-first g u = omega arith
 taken-turn p b q x l j asks g u = omega arith
 taken-turn p b q x l j polls-on g u = omega arith
 taken-turn p b q x l j polls-end g u = omega arith
 
--- what is answered and what is left are together the script
-all-taken : (o : Order) (es : List Exchange) → Played o es → AllWell es → firstRefused o es ≡ none → unpolled (answered es) + counted (left o es) ≡ counted (script o)
-all-taken o es nothing g v = omega arith
+-- a good A1h is the first
+erased-more : (o : Order) (es : List Exchange) (x : Op) (l : List Op) (y : Reply) → Played o es → left o es ≡ x ∷ l → (y .good || asksReady x) ≡ true → one (erased (made o es x y ∷ es)) ≡ one (isErasing x) + one (erased es)
+erased-more o es x l y p e g = go (isErasing x) refl (y .good) refl
+  where
+    not-asking : isErasing x ≡ true → asksReady x ≡ false
+    not-asking i = ap (λ (k : ℕ). eqb k 0x00) (eqb-true (code x) 0xA1 i)
+
+    go : (a : Bool) → isErasing x ≡ a → (b : Bool) → y .good ≡ b → one ((b && a) || erased es) ≡ one a + one (erased es)
+    go true i true j = let n : one (erased es) ≡ 0 = ap one (rightly-erased o es x l p e i .once) in omega arith
+    go true i false j = absurd (false-true (sym (ap (λ (b : Bool). b || asksReady x) j ∙ not-asking i) ∙ g))
+    go false i true j = omega arith
+    go false i false j = omega arith
+
+-- what is answered and what is left are together the script, and 2 more for an erasing
+all-taken : (o : Order) (es : List Exchange) → Played o es → AllWell es → firstRefused o es ≡ none → unpolled (answered es) + counted (left o es) ≡ counted (script o) + 2 * (one (erased es) + erasings (left o es))
+all-taken o es nothing g v = let a = none-past (beforeTracks o (eachTrack o 0 (tracksIn o))) (script-past o) in omega arith
 all-taken o es (then {es = before} {x = x} {l = l} p u e y) g v =
+    let j : Judgement = judged o before (made o before x y) in
     let i = all-taken o before p (g .1) u in
     let a : counted (left o before) ≡ counted (x ∷ l) = ap counted e in
-    let b : counted (left o (made o before x y ∷ before)) ≡ counted (move (judged o before (made o before x y)) (x ∷ l)) = ap (λ (m : List Op). counted (move (judged o before (made o before x y)) m)) e in
+    let a' : erasings (left o before) ≡ erasings (x ∷ l) = ap erasings e in
+    let b : counted (left o (made o before x y ∷ before)) ≡ counted (move j (x ∷ l)) = ap (λ (m : List Op). counted (move j m)) e in
+    let b' : erasings (left o (made o before x y ∷ before)) ≡ erasings (move j (x ∷ l)) = ap (λ (m : List Op). erasings (move j m)) e in
     let c = taken-turn _ (y .good) _ x l _ (turn o before x y) (g .0) (unrefused-last o before (made o before x y) u v) in
     let d : unpolled (answered (made o before x y ∷ before)) ≡ unpolled (answered before) + weight x = weighed (isPoll x) (unpolled (answered before)) in
+    let f = erased-more o before x l y p e (g .0) in
     omega arith
+
+-- where an A1h is due, more than it and its 51h is left
+some-left : (l : List Op) → Scripted l → Unclosed l → 1 ≤ counted l
+some-left [] z u = absurd (omega arith)
+some-left (y ∷ l) z u = let a : counted (y ∷ l) ≡ suc (counted l) = if-no _ _ (z .1 .0) in omega arith
+
+owed : (o : Order) (f : Facts) (b : Bool) (x : Op) (l : List Op) → Stage o f (x ∷ l) → Shape b (x ∷ l) → 2 * erasings (x ∷ l) + weight x ≤ counted (x ∷ l)
+owed o f b x l (first {l = k} z n u) h = let a = none-past k z in omega arith
+owed o f b x l (asked {l = k} z n u) h = let a = none-past k z in omega arith
+owed o f b x l (wiping {l = k} z w) (working r) = let a = none-past k z in let c = some-left k (r .1 .1 .1 .1) (r .0) in omega arith
+owed o f b x l (asking {l = k} z n w) h = let a = none-past k z in omega arith
+owed o f b x l (hearing {l = k} z n w) h = let a = none-past k z in omega arith
+owed o f b x l (anew {l = k} z n w) h = let a = none-past k z in omega arith
+owed o f b x l (past z n w) h = let a = none-past (x ∷ l) z in let c = weighed (isPoll x) (counted l) in omega arith
 
 -- no poll stands in the script
 script-counted : (l : List Op) → Scripted l → counted l ≡ length l
@@ -98,7 +149,7 @@ never-polled false = refl
 
 pub never-polling : (es : List Exchange) → polling false es ≡ false
 never-polling [] = refl
-never-polling (e ∷ es) = go (e .reply .good) (isPolled false (e .command .op)) (never-polled (isClosing (e .command .op))) (ends es e) (polling false es) (never-polling es)
+never-polling (e ∷ es) = go (e .reply .good) (isPolled false (e .command .op)) (never-polled (takesImmed (e .command .op))) (ends es e) (polling false es) (never-polling es)
   where
     go : (g b : Bool) → b ≡ false → (c p : Bool) → p ≡ false → if (g && b) true (if c false p) ≡ false
     go true b n true p q = if-no _ _ n
@@ -121,9 +172,9 @@ no-polls o es f p = all-unpolled o es (none es) p none
 -- the job is done, and all of the script is answered
 
 pub data Progressed (o : Order) (k : ℕ) (es : List Exchange) : Type 0 where
-  under-way : ending (ruled (pass o) es) ≡ going → length es ≡ k → polling (o .immed) es ≡ false → unpolled (commandIn (ruled (pass o) es)) ≡ 1 → unpolled (answered es) < expected o → Progressed o k es
-  polled : ending (ruled (pass o) es) ≡ going → length es ≡ k → polling (o .immed) es ≡ true → unpolled (commandIn (ruled (pass o) es)) ≡ 0 → unpolled (answered es) ≤ expected o → Progressed o k es
-  at-end : ending (ruled (pass o) es) ≡ as-done → length es ≤ k → polling (o .immed) es ≡ false → unpolled (commandIn (ruled (pass o) es)) ≡ 0 → unpolled (answered es) ≡ expected o → Progressed o k es
+  under-way : ending (ruled (pass o) es) ≡ going → length es ≡ k → polling (o .immed) es ≡ false → unpolled (commandIn (ruled (pass o) es)) ≡ 1 → unpolled (answered es) < exactCount o es → Progressed o k es
+  polled : ending (ruled (pass o) es) ≡ going → length es ≡ k → polling (o .immed) es ≡ true → unpolled (commandIn (ruled (pass o) es)) ≡ 0 → unpolled (answered es) ≤ exactCount o es → Progressed o k es
+  at-end : ending (ruled (pass o) es) ≡ as-done → length es ≤ k → polling (o .immed) es ≡ false → unpolled (commandIn (ruled (pass o) es)) ≡ 0 → unpolled (answered es) ≡ exactCount o es → Progressed o k es
 
 pub rule-good : (o : Order) (rs : List Reply) → length (tracksIn o) ≡ o .count → AllWell (play (pass o) [] rs) → firstRefused o (play (pass o) [] rs) ≡ none → Progressed o (length rs) (play (pass o) [] rs)
 rule-good o rs n g u = go (left o es) refl (polling (o .immed) es) refl
@@ -131,8 +182,24 @@ rule-good o rs n g u = go (left o es) refl (polling (o .immed) es) refl
     es : List Exchange
     es = play (pass o) [] rs
 
-    total : unpolled (answered es) + counted (left o es) ≡ expected o
-    total = all-taken o es (played o rs) g u ∙ script-counted (script o) (scripted o) ∙ script-length o n
+    doubled : (b : Bool) → 2 * one b ≡ if b 2 0
+    doubled true = refl
+    doubled false = refl
+
+    total : unpolled (answered es) + counted (left o es) ≡ exactCount o es + 2 * erasings (left o es)
+    total =
+        let a = all-taken o es (played o rs) g u in
+        let b = script-counted (script o) (scripted o) in
+        let c = script-length o n in
+        let d = doubled (erased es) in
+        omega arith
+
+    owing : (x : Op) (l : List Op) → left o es ≡ x ∷ l → 2 * erasings (left o es) + weight x ≤ counted (left o es)
+    owing x l e =
+        let a = owed o (facts es) (polling (o .immed) es) x l (subst (Stage o (facts es)) e (stage o es (played o rs))) (subst (Shape (polling (o .immed) es)) e (plan-shape o es (played o rs))) in
+        let b = ap erasings e in
+        let c = ap counted e in
+        omega arith
 
     given : (x : Op) (l : List Op) → left o es ≡ x ∷ l → unpolled (commandIn (ruled (pass o) es)) ≡ weight x
     given x l e = ap (λ (a : Ruling). unpolled (commandIn a)) (ruled-at o es (x ∷ l) u e)
@@ -141,15 +208,18 @@ rule-good o rs n g u = go (left o es) refl (polling (o .immed) es) refl
     go [] e b q =
         let a = total in
         let c : counted (left o es) ≡ 0 = ap counted e in
+        let d : erasings (left o es) ≡ 0 = ap erasings e in
         at-end (ap ending (ruled-at o es [] u e)) (timed o rs .at-most) (rule-done o es (played o rs) .0 (ruled-at o es [] u e) .1 .1) (ap (λ (a : Ruling). unpolled (commandIn a)) (ruled-at o es [] u e)) (omega arith)
     go (x ∷ l) e true q =
         let a = total in
         let d : ending (ruled (pass o) es) ≡ going = ap ending (ruled-at o es (x ∷ l) u e) in
         let i : isPoll x ≡ true = due-poll o es x l (played o rs) e ∙ q in
+        let w = owing x l e in
         polled d (timed o rs .exact d) q (given x l e ∙ if-yes _ _ i) (omega arith)
     go (x ∷ l) e false q =
         let a = total in
         let d : ending (ruled (pass o) es) ≡ going = ap ending (ruled-at o es (x ∷ l) u e) in
         let i : isPoll x ≡ false = due-poll o es x l (played o rs) e ∙ q in
-        let c : counted (left o es) ≡ suc (counted l) = ap counted e ∙ if-no _ _ i in
+        let w = owing x l e in
+        let c : weight x ≡ 1 = if-no _ _ i in
         under-way d (timed o rs .exact d) q (given x l e ∙ if-no _ _ i) (omega arith)
