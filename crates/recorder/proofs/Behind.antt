@@ -149,6 +149,7 @@ GoesOn m o (Write t f k) = Goes m o (t .0)
 GoesOn m o (SynchronizeCache t) = Unit {0}
 GoesOn m o (CloseTrack t) = m ≡ Tao
 GoesOn m o CloseSession = Unit {0}
+GoesOn m o Blank = Unit {0}
 GoesOn m o TestUnitReady = Unit {0}
 GoesOn m o RequestSense = Unit {0}
 
@@ -189,6 +190,7 @@ goes-by m o (Write t f k) z g = piece-on m o (t .0) (f .0 + k .0) (z .all) g
 goes-by m o (SynchronizeCache t) z g = synchronized m o t
 goes-by m o (CloseTrack t) z g = closed m o t (z .all) g
 goes-by m o CloseSession z g = refl
+goes-by m o Blank z g = refl
 goes-by m o TestUnitReady z g = refl
 goes-by m o RequestSense z g = refl
 

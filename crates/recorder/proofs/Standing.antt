@@ -23,13 +23,15 @@ use Rattle.recorder.specs.declared.replies.TrackInformation.{TrackInform
 use Rattle.recorder.specs.declared.replies.Reading.{Reading}
 use Rattle.recorder.specs.declared.replies.Reading.the-variants.{Unread}
 use Rattle.recorder.specs.declared.exchanges.Seen.{Seen}
-use Rattle.recorder.specs.Script.{isClosing, write, portion}
+use Rattle.recorder.specs.Script.{takesImmed, write, portion}
 use Rattle.recorder.specs.Exchanges.{Named, see, name}
 use Rattle.recorder.specs.Rules.{mixedOrKept, still, leadOut, lastFrame, fits, trackTests, judge, none, refusedBy}
 use Rattle.recorder.specs.Places.{pieceEnded, beforeBlock, afterCloseTrack, pieceOf, afterIn}
 use Rattle.recorder.proofs.Lists.{none-found, false-true, both, passed-clear}
 use Rattle.recorder.proofs.Turns.{isAsking, Reads, malformed, profile, status, information, indication, ready, unread}
 use Rattle.recorder.proofs.Scripts.{by}
+use Rattle.recorder.specs.History.{Recordable}
+use Rattle.recorder.proofs.Erasing.{isLater}
 use Rattle.recorder.proofs.Apart.{Passed, passed}
 use Rattle.recorder.proofs.Behind.{Sized, track-length}
 
@@ -100,6 +102,7 @@ Standing Tao o (CloseTrack t) v n = InOrder o (t .0)
 Standing Sao o (CloseTrack t) v n = ⊥
 Standing Tao o CloseSession v n = Unit {0}
 Standing Sao o CloseSession v n = ⊥
+Standing m o Blank v n = (o .erase ≡ true) × (v .at .0 ≡ 0)
 Standing m o TestUnitReady v n = ⊥
 Standing m o RequestSense v n = ⊥
 
@@ -155,11 +158,20 @@ informed-tao o (suc t) v i z r p =
     let y = blocks-less (by o Tao) t (omega arith) in
     record { in-order = r; of-track = refl; limit = omega arith; room = omega arith }
 
-informed-sao : (o : Order) (v : Seen) (i : TrackInformation) → Passed (by o Sao) 1 v i → InSession (by o Sao)
-informed-sao o v i p =
-    let c = p .opening refl in
-    let w = limits Sao (blocksAfter (by o Sao) 0) i (p .fitting) in
-    record { alike = c .1 .1 .1 .0; long = not-false _ (c .1 .1 .1 .1 .0); limit = omega arith }
+-- 8 and 9 have passed here or, with flag bit 3, before
+informed-sao : (o : Order) (v : Seen) (i : TrackInformation) → (o .erase ≡ true → Recordable (by o Sao)) → Passed (by o Sao) 1 v i → InSession (by o Sao)
+informed-sao o v i early p = go (o .erase) refl
+  where
+    go : (b : Bool) → o .erase ≡ b → InSession (by o Sao)
+    go true e = let r = early e in record { alike = r .alike; long = r .long; limit = r .ends }
+    go false e =
+        let c = p .opening refl e in
+        let w = limits Sao (blocksAfter (by o Sao) 0) i (p .fitting) in
+        record { alike = c .1 .1 .1 .0; long = not-false _ (c .1 .1 .1 .1 .0); limit = omega arith }
+
+-- with flag bit 3 8, 9 and the lead-out limit have passed before a 52h
+abbrev pub Early : Order → Op → Type 0
+Early o x = isLater x ≡ true → o .erase ≡ true → Recordable o
 
 -- ---- the next operation
 
@@ -175,36 +187,39 @@ first-track : (m : Method) (o : Order) (v : Seen) (n : Named) → Sized o → v 
 first-track Tao o v n z s = record { one = omega arith; few = z .some }
 first-track Sao o v n z s = (refl, s)
 
--- where a closing command stands, and what comes after it, hangs on nothing that is seen or named: polls may come in between
-pub standing-closing : (m : Method) (o : Order) (x : Op) (v w : Seen) (n k : Named) → Standing m o x v n → isClosing x ≡ true → Standing m o x w k
-standing-closing m o GetConfiguration v w n k s c = absurd (false-true c)
-standing-closing m o ReadDiscInformation v w n k s c = absurd (false-true c)
-standing-closing m o (ReadTrackInformation t) v w n k s c = absurd (false-true c)
-standing-closing m o (ModeSelect t) v w n k s c = absurd (false-true c)
-standing-closing m o SendCueSheet v w n k s c = absurd (false-true c)
-standing-closing m o (Write t f d) v w n k s c = absurd (false-true c)
-standing-closing m o (SynchronizeCache t) v w n k s c = s
-standing-closing Tao o (CloseTrack t) v w n k s c = s
-standing-closing Sao o (CloseTrack t) v w n k s c = absurd s
-standing-closing Tao o CloseSession v w n k s c = tt
-standing-closing Sao o CloseSession v w n k s c = absurd s
-standing-closing m o TestUnitReady v w n k s c = absurd s
-standing-closing m o RequestSense v w n k s c = absurd s
+-- where an operation stands that takes Immed, and what comes after it, hangs on nothing that is seen or named but where the next block
+-- goes: polls may come in between
+pub standing-closing : (m : Method) (o : Order) (x : Op) (v w : Seen) (n k : Named) → Standing m o x v n → takesImmed x ≡ true → w .at .0 ≡ v .at .0 → Standing m o x w k
+standing-closing m o GetConfiguration v w n k s c e = absurd (false-true c)
+standing-closing m o ReadDiscInformation v w n k s c e = absurd (false-true c)
+standing-closing m o (ReadTrackInformation t) v w n k s c e = absurd (false-true c)
+standing-closing m o (ModeSelect t) v w n k s c e = absurd (false-true c)
+standing-closing m o SendCueSheet v w n k s c e = absurd (false-true c)
+standing-closing m o (Write t f d) v w n k s c e = absurd (false-true c)
+standing-closing m o (SynchronizeCache t) v w n k s c e = s
+standing-closing Tao o (CloseTrack t) v w n k s c e = s
+standing-closing Sao o (CloseTrack t) v w n k s c e = absurd s
+standing-closing Tao o CloseSession v w n k s c e = tt
+standing-closing Sao o CloseSession v w n k s c e = absurd s
+standing-closing m o Blank v w n k s c e = (s .0, e ∙ s .1)
+standing-closing m o TestUnitReady v w n k s c e = absurd s
+standing-closing m o RequestSense v w n k s c e = absurd s
 
-stood-closing : (m : Method) (o : Order) (x : Op) (v w : Seen) (n k : Named) → Standing m (by o m) x v n → isClosing x ≡ true → StandingThen m (by o m) (afterIn (by o m) x) w k
-stood-closing m o GetConfiguration v w n k s c = absurd (false-true c)
-stood-closing m o ReadDiscInformation v w n k s c = absurd (false-true c)
-stood-closing m o (ReadTrackInformation t) v w n k s c = absurd (false-true c)
-stood-closing m o (ModeSelect t) v w n k s c = absurd (false-true c)
-stood-closing m o SendCueSheet v w n k s c = absurd (false-true c)
-stood-closing m o (Write t f d) v w n k s c = absurd (false-true c)
-stood-closing Tao o (SynchronizeCache t) v w n k s c = s
-stood-closing Sao o (SynchronizeCache t) v w n k s c = tt
-stood-closing Tao o (CloseTrack t) v w n k s c = after-closed o (t .0) w k
-stood-closing Sao o (CloseTrack t) v w n k s c = absurd s
-stood-closing m o CloseSession v w n k s c = tt
-stood-closing m o TestUnitReady v w n k s c = absurd s
-stood-closing m o RequestSense v w n k s c = absurd s
+stood-closing : (m : Method) (o : Order) (x : Op) (v w : Seen) (n k : Named) → Standing m (by o m) x v n → takesImmed x ≡ true → w .at .0 ≡ v .at .0 → StandingThen m (by o m) (afterIn (by o m) x) w k
+stood-closing m o GetConfiguration v w n k s c e = absurd (false-true c)
+stood-closing m o ReadDiscInformation v w n k s c e = absurd (false-true c)
+stood-closing m o (ReadTrackInformation t) v w n k s c e = absurd (false-true c)
+stood-closing m o (ModeSelect t) v w n k s c e = absurd (false-true c)
+stood-closing m o SendCueSheet v w n k s c e = absurd (false-true c)
+stood-closing m o (Write t f d) v w n k s c e = absurd (false-true c)
+stood-closing Tao o (SynchronizeCache t) v w n k s c e = s
+stood-closing Sao o (SynchronizeCache t) v w n k s c e = tt
+stood-closing Tao o (CloseTrack t) v w n k s c e = after-closed o (t .0) w k
+stood-closing Sao o (CloseTrack t) v w n k s c e = absurd s
+stood-closing m o CloseSession v w n k s c e = tt
+stood-closing m o Blank v w n k s c e = e ∙ s .1
+stood-closing m o TestUnitReady v w n k s c e = absurd s
+stood-closing m o RequestSense v w n k s c e = absurd s
 
 -- within the tracks: the reply is not read
 stood-on : (m : Method) (o : Order) (x : Op) (v : Seen) (n : Named) → Sized o → Standing m (by o m) x v n → isAsking x ≡ false → StandingThen m (by o m) (afterIn (by o m) x) (see m x Unread v) n
@@ -221,27 +236,28 @@ stood-on Sao o (Write t f c) v n z s q =
     let p = s .1 .0 .part in
     let x = s .1 .1 .fills in
     in-session o (t .0) (f .0 + c .0) (see Sao (Write t f c) Unread v) n z (s .0) (record { few = s .1 .1 .few; fills = omega arith })
-stood-on m o (SynchronizeCache t) v n z s q = stood-closing m o (SynchronizeCache t) v _ n n s refl
-stood-on m o (CloseTrack t) v n z s q = stood-closing m o (CloseTrack t) v _ n n s refl
+stood-on m o (SynchronizeCache t) v n z s q = stood-closing m o (SynchronizeCache t) v _ n n s refl refl
+stood-on m o (CloseTrack t) v n z s q = stood-closing m o (CloseTrack t) v _ n n s refl refl
 stood-on m o CloseSession v n z s q = tt
+stood-on m o Blank v n z s q = s .1
 stood-on m o TestUnitReady v n z s q = absurd s
 stood-on m o RequestSense v n z s q = absurd s
 
-stood-by : (m : Method) (o : Order) (x : Op) (r : Reading) (v : Seen) (n : Named) → Sized o → Standing m (by o m) x v n → Reads x true r → refusedBy (judge (by o m) v x r) ≡ none → StandingThen m (by o m) (afterIn (by o m) x) (see m x r v) (name x r n)
-stood-by m o x r v n z s (malformed a) j = absurd (none-found _ (sym j))
-stood-by m o x r v n z s profile j = s
-stood-by m o x r v n z s status j = first-track m o _ n z s
-stood-by Tao o x r v n z s (information {t = t} {i = i}) j = (informed-tao o (t .0) v i z s (passed (by o Tao) (t .0) v i (passed-clear (trackTests (by o Tao) (t .0) v i) j)), refl)
-stood-by Sao o x r v n z s (information {t = t} {i = i}) j =
-    (informed-sao o v i (subst (λ (k : ℕ). Passed (by o Sao) k v i) (s .0) (passed (by o Sao) (t .0) v i (passed-clear (trackTests (by o Sao) (t .0) v i) j))), s)
-stood-by m o x r v n z s indication j = absurd s
-stood-by m o x r v n z s ready j = absurd s
-stood-by m o x r v n z s (unread q i) j = stood-on m o x v n z s q
+stood-by : (m : Method) (o : Order) (x : Op) (r : Reading) (v : Seen) (n : Named) → Sized o → Early (by o m) x → Standing m (by o m) x v n → Reads x true r → refusedBy (judge (by o m) v x r) ≡ none → StandingThen m (by o m) (afterIn (by o m) x) (see m x r v) (name x r n)
+stood-by m o x r v n z early s (malformed a) j = absurd (none-found _ (sym j))
+stood-by m o x r v n z early s profile j = s
+stood-by m o x r v n z early s status j = first-track m o _ n z s
+stood-by Tao o x r v n z early s (information {t = t} {i = i}) j = (informed-tao o (t .0) v i z s (passed (by o Tao) (t .0) v i (passed-clear (trackTests (by o Tao) (t .0) v i) [] j)), refl)
+stood-by Sao o x r v n z early s (information {t = t} {i = i}) j =
+    (informed-sao o v i (early refl) (subst (λ (k : ℕ). Passed (by o Sao) k v i) (s .0) (passed (by o Sao) (t .0) v i (passed-clear (trackTests (by o Sao) (t .0) v i) [] j))), s)
+stood-by m o x r v n z early s indication j = absurd s
+stood-by m o x r v n z early s ready j = absurd s
+stood-by m o x r v n z early s (unread q i) j = stood-on m o x v n z s q
 
 -- a good reply that passes
-pub stood : (o : Order) (x : Op) (r : Reading) (v : Seen) (n : Named) → Sized o → Standing (o .method) o x v n → Reads x true r → refusedBy (judge o v x r) ≡ none → StandingThen (o .method) o (afterIn o x) (see (o .method) x r v) (name x r n)
-stood o x r v n z s w j = stood-by (o .method) o x r v n z s w j
+pub stood : (o : Order) (x : Op) (r : Reading) (v : Seen) (n : Named) → Sized o → Early o x → Standing (o .method) o x v n → Reads x true r → refusedBy (judge o v x r) ≡ none → StandingThen (o .method) o (afterIn o x) (see (o .method) x r v) (name x r n)
+stood o x r v n z early s w j = stood-by (o .method) o x r v n z early s w j
 
 -- the end of a polling
-pub stood-polled : (o : Order) (x : Op) (v w : Seen) (n k : Named) → Standing (o .method) o x v n → isClosing x ≡ true → StandingThen (o .method) o (afterIn o x) w k
-stood-polled o x v w n k s c = stood-closing (o .method) o x v w n k s c
+pub stood-polled : (o : Order) (x : Op) (v w : Seen) (n k : Named) → Standing (o .method) o x v n → takesImmed x ≡ true → w .at .0 ≡ v .at .0 → StandingThen (o .method) o (afterIn o x) w k
+stood-polled o x v w n k s c e = stood-closing (o .method) o x v w n k s c e
