@@ -37,11 +37,11 @@ use Rattle.recorder.specs.declared.job.Progress.{Progress}
 use Rattle.recorder.specs.declared.job.Recorder.{Recorder}
 use Rattle.recorder.specs.Answers.{issue, sheetBytes, madeBy, madeFor, cdbOf, bytesIn}
 use Rattle.recorder.specs.Replies.{reading}
-use Rattle.recorder.specs.Script.{isClosing, write, portion, trackIn, stepwise}
+use Rattle.recorder.specs.Script.{isPoll, takesImmed, write, portion, trackIn, stepwise}
 use Rattle.recorder.specs.Exchanges.{see}
 use Rattle.recorder.specs.Rules.{lastFrame, Judgement, again, onward, refused, judge}
 use Rattle.recorder.specs.Places.{pieceEnded, beforeBlock, afterCloseTrack, opAfter, pieceOf, afterIn}
-use Rattle.recorder.specs.Job.{dueAt, dueIn, commandOf, Turn, goes, finish, halt, advanced, turnBy, turnOf, stepOf, inOrder, inTime, inPiece, isWrite, standsAt, standsIn, standsPolled, stands, unchanged, restsAt, opening, giveOf}
+use Rattle.recorder.specs.Job.{dueAt, dueIn, commandOf, Turn, goes, finish, halt, advanced, aside, turnBy, turnOf, stepOf, inOrder, inTime, inPiece, isWrite, standsAt, standsIn, standsPolled, standsErasing, stands, unchanged, restsAt, opening, giveOf}
 use Rattle.recorder.proofs.Lists.{if-yes, false-true, both, clash}
 use Rattle.recorder.proofs.Turns.{Asks, a46, a51, a52, a03, isAsking, Reads, busy, not-ready, failed, malformed, profile, status, information, indication, ready, unread, reads}
 
@@ -57,6 +57,7 @@ Makes n (Write t f c) at = (at .0 ≤ lastFrame) × ((1 ≤ c .0) × (c .0 ≤ 1
 Makes n (SynchronizeCache t) at = Unit {0}
 Makes n (CloseTrack t) at = Unit {0}
 Makes n CloseSession at = Unit {0}
+Makes n Blank at = Unit {0}
 Makes n TestUnitReady at = Unit {0}
 Makes n RequestSense at = Unit {0}
 
@@ -102,6 +103,7 @@ made-by immed n (Write t f c) at h = made-so _ _ (write-made at c (h .0) (h .1 .
 made-by immed n (SynchronizeCache t) at h = made-so _ _ refl
 made-by immed n (CloseTrack t) at h = made-so _ _ refl
 made-by immed n CloseSession at h = made-so _ _ refl
+made-by immed n Blank at h = made-so _ _ refl
 made-by immed n TestUnitReady at h = made-so _ _ refl
 made-by immed n RequestSense at h = made-so _ _ refl
 
@@ -135,6 +137,7 @@ own-by m n l k at (Write t f c) a b e =
 own-by m n l k at (SynchronizeCache t) a b e = tt
 own-by m n l k at (CloseTrack t) a b e = tt
 own-by m n l k at CloseSession a b e = tt
+own-by m n l k at Blank a b e = tt
 own-by m n l k at TestUnitReady a b e = tt
 own-by m n l k at RequestSense a b e = tt
 
@@ -214,6 +217,7 @@ module _ (n k : ℕ) (v : Seen) (a : 1 ≤ n) (b : n ≤ mostTracks) where
       go true = tt
       go false = tt
   on-unread m l CloseSession p e q = tt
+  on-unread m l Blank p e q = tt
   on-unread m l TestUnitReady p e q = absurd (false-true e)
   on-unread m l RequestSense p e q = absurd (false-true e)
 
@@ -228,11 +232,12 @@ module _ (n k : ℕ) (v : Seen) (a : 1 ≤ n) (b : n ≤ mostTracks) where
   on-asking m l (SynchronizeCache t) at q = absurd (false-true q)
   on-asking m l (CloseTrack t) at q = absurd (false-true q)
   on-asking m l CloseSession at q = absurd (false-true q)
+  on-asking m l Blank at q = absurd (false-true q)
   on-asking m l TestUnitReady at q = absurd (false-true q)
   on-asking m l RequestSense at q = tt
 
-  -- nor after a closing command, wherever the next block goes
-  on-closed : (m : Method) (l : ℕ) (x : Op) (at : FrameCount) → isClosing x ≡ true → MakesThen n (opAfter m n l k x) at
+  -- nor after one that takes Immed, wherever the next block goes
+  on-closed : (m : Method) (l : ℕ) (x : Op) (at : FrameCount) → takesImmed x ≡ true → MakesThen n (opAfter m n l k x) at
   unfolding afterCloseTrack
   on-closed m l GetConfiguration at q = absurd (false-true q)
   on-closed m l ReadDiscInformation at q = absurd (false-true q)
@@ -248,6 +253,7 @@ module _ (n k : ℕ) (v : Seen) (a : 1 ≤ n) (b : n ≤ mostTracks) where
       go true = tt
       go false = tt
   on-closed m l CloseSession at q = tt
+  on-closed m l Blank at q = tt
   on-closed m l TestUnitReady at q = absurd (false-true q)
   on-closed m l RequestSense at q = absurd (false-true q)
 
@@ -261,6 +267,11 @@ MakesTurn n (halt w) = Unit {0}
 advanced-made : (n : ℕ) (f : Following) (u : Seen) → MakesThen n f (u .at) → MakesTurn n (advanced f u)
 advanced-made n (Then y) u h = h
 advanced-made n Nothing u h = tt
+
+-- nothing is needed for a poll or A1h
+aside-made : (n : ℕ) (b : Bool) (x : Op) (v : Seen) → MakesTurn n (goes (aside b x v))
+aside-made n true x v = tt
+aside-made n false x v = tt
 
 -- no failed reply leads onward, but to 00h
 failed-asks : (o : Order) (v : Seen) (x : Op) (g : Bool) (r : Reading) (xs : List Op) → Reads x g r → g ≡ false → judge o v x r ≡ onward xs → x ≡ TestUnitReady
@@ -304,16 +315,16 @@ module _ (o : Order) (x : Op) (v : Seen) (e : standsIn (o .method) (o .count) (p
   turn-made Off c g r again w q = own-by (o .method) (o .count) _ _ (v .at) x (standing .0) (standing .1 .0) (standing .1 .1)
   turn-made Off c true r (onward []) w q = advanced-made (o .count) (afterIn o x) (see (o .method) x r v) (next-made r w)
   turn-made Off c false r (onward []) w q = absurd (no-place (failed-asks o v x false r [] w refl q))
-  turn-made Off c g r (onward (y ∷ ys)) w q = tt
+  turn-made Off c g r (onward (y ∷ ys)) w q = aside-made (o .count) (isPoll y) x _
   turn-made Off c g r (refused y) w q = tt
   turn-made Ready c g r again w q = tt
   turn-made Ready c g r (onward []) w q = tt
-  turn-made Ready c g r (onward (y ∷ ys)) w q = tt
+  turn-made Ready c g r (onward (y ∷ ys)) w q = aside-made (o .count) (isPoll y) x _
   turn-made Ready c g r (refused y) w q = tt
   turn-made Sense c g r again w q = tt
   turn-made Sense c g r (onward []) w q =
-      advanced-made (o .count) (afterIn o x) (see (o .method) RequestSense r v) (on-closed (o .count) _ v (standing .0) (standing .1 .0) (o .method) _ x _ (both (isClosing x) _ c .0))
-  turn-made Sense c g r (onward (y ∷ ys)) w q = tt
+      advanced-made (o .count) (afterIn o x) (see (o .method) RequestSense r v) (on-closed (o .count) _ v (standing .0) (standing .1 .0) (o .method) _ x _ (both (takesImmed x) _ c .0))
+  turn-made Sense c g r (onward (y ∷ ys)) w q = aside-made (o .count) (isPoll y) x _
   turn-made Sense c g r (refused y) w q = tt
 
 -- the command that is given has its maker's bytes
@@ -341,8 +352,9 @@ give-made r good d c = go (restsAt (r .phase)) (stands (r .order) (r .progress))
     go false false q e = clash (cc)
     go false true q e =
         let p = both (standsPolled (r .order .immed) (s .place) (s .poll)) _ q in
+        let i = both (standsErasing (r .order .erase) (s .place)) _ (p .1) in
         step-made (r .order) s (r .count) t
-        (turn-made (r .order) (s .place) (s .seen) (p .1) (s .poll) (p .0) good (reading (dueIn s) (replyOf good d)) _ (reads (dueIn s) (replyOf good d)) refl) c e
+        (turn-made (r .order) (s .place) (s .seen) (i .1) (s .poll) (p .0) good (reading (dueIn s) (replyOf good d)) _ (reads (dueIn s) (replyOf good d)) refl) c e
 
 -- and the first one
 pub take-made : (o : Order) (n : ℕ) (c : Command) → stepOf o opening n (goes opening) .answer ≡ issue c → madeFor (o .immed) (o .count) c ≡ pass (bytesIn (stepOf o opening n (goes opening) .cdb))

@@ -184,11 +184,11 @@ moved-sense o x v n z s c g r (malformed a) = refuses o x Sense v n z s r _ refl
 moved-sense o x v n z s c g r (indication {n = m}) = heard o x v n z s c m (isLast (v .ready) m) refl
 moved-sense o x v n z s c g r (unread q i) = absurd (false-true (sym q))
 
-moved-by : (o : Order) (x : Op) (p : Poll) (v : Seen) (n : Named) → Sized o → Early o x → Standing (o .method) o x v n → PolledAt o x p → (g : Bool) (r : Reading) → Reads (dueAt x p) g r → Moved o x p v n r
+moved-by : (o : Order) (x : Op) (p : Poll) (v : Seen) (n : Named) → Sized o → Early o (dueAt x p) → Standing (o .method) o x v n → PolledAt o x p → (g : Bool) (r : Reading) → Reads (dueAt x p) g r → Moved o x p v n r
 moved-by o x Off v n z early s c g r w = moved-off o x v n z early s g r w
 moved-by o x Ready v n z early s c g r w = moved-ready o x v n z s c g r w
 moved-by o x Sense v n z early s c g r w = moved-sense o x v n z s c g r w
 
 -- any reply
-pub moved : (o : Order) (x : Op) (p : Poll) (v : Seen) (n : Named) → Sized o → Early o x → Stood o x p v n → (y : Reply) → Moved o x p v n (reading (dueAt x p) y)
+pub moved : (o : Order) (x : Op) (p : Poll) (v : Seen) (n : Named) → Sized o → Early o (dueAt x p) → Stood o x p v n → (y : Reply) → Moved o x p v n (reading (dueAt x p) y)
 moved o x p v n z early s y = moved-by o x p v n z early (s .standing) (s .polled-at) (y .good) (reading (dueAt x p) y) (reads (dueAt x p) y)

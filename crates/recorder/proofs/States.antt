@@ -32,7 +32,7 @@ use Rattle.recorder.specs.Script.{isPoll, trackIn, write, stepwise}
 use Rattle.recorder.specs.Exchanges.{Named}
 use Rattle.recorder.specs.Rules.{mixedOrKept, lastFrame}
 use Rattle.recorder.specs.Places.{pieceOf}
-use Rattle.recorder.specs.Job.{dueAt, commandOf, latestProgress, inOrder, inTime, inPiece, isWrite, standsAt, standsIn, standsPolled, stands}
+use Rattle.recorder.specs.Job.{dueAt, commandOf, latestProgress, inOrder, inTime, inPiece, isWrite, standsAt, standsIn, standsPolled, standsErasing, stands}
 use Rattle.recorder.specs.History.{Accompanied, FreshWrite}
 use Rattle.recorder.proofs.Lists.{if-yes, if-no, false-true, neither, frames-back, clash}
 use Rattle.recorder.proofs.Scripts.{by}
@@ -114,6 +114,7 @@ stands-by Tao o (CloseTrack t) v n z s = order-so (by o Tao) (t .0) s
 stands-by Sao o (CloseTrack t) v n z s = absurd s
 stands-by Tao o CloseSession v n z s = refl
 stands-by Sao o CloseSession v n z s = absurd s
+stands-by m o Blank v n z s = refl
 stands-by m o TestUnitReady v n z s = absurd s
 stands-by m o RequestSense v n z s = absurd s
 
@@ -122,10 +123,26 @@ polled-so o x Off c = refl
 polled-so o x Ready c = c
 polled-so o x Sense c = c
 
+-- an order whose A1h is due has flag bit 3
+erasing-so : (m : Method) (o : Order) (x : Op) (v : Seen) (n : Named) → Standing m o x v n → standsErasing (o .erase) x ≡ true
+erasing-so m o GetConfiguration v n s = refl
+erasing-so m o ReadDiscInformation v n s = refl
+erasing-so m o (ReadTrackInformation t) v n s = refl
+erasing-so m o (ModeSelect t) v n s = refl
+erasing-so m o SendCueSheet v n s = refl
+erasing-so m o (Write t f c) v n s = refl
+erasing-so m o (SynchronizeCache t) v n s = refl
+erasing-so m o (CloseTrack t) v n s = refl
+erasing-so m o CloseSession v n s = refl
+erasing-so m o Blank v n s = s .0
+erasing-so m o TestUnitReady v n s = absurd s
+erasing-so m o RequestSense v n s = absurd s
+
 pub stood-stands : (o : Order) (x : Op) (p : Poll) (v : Seen) (n : Named) → Sized o → Stood o x p v n → stands o (at x p v) ≡ true
 unfolding standsIn
 stood-stands o x p v n z s =
-    two _ _ (polled-so o x p (s .polled-at)) (two _ _ (le-leb _ _ (z .some)) (two _ _ (le-leb _ _ (z .few)) (stands-by (o .method) o x v n z (s .standing))))
+    two _ _ (polled-so o x p (s .polled-at))
+    (two _ _ (erasing-so (o .method) o x v n (s .standing)) (two _ _ (le-leb _ _ (z .some)) (two _ _ (le-leb _ _ (z .few)) (stands-by (o .method) o x v n z (s .standing)))))
 
 -- ---- no stale address
 
@@ -218,6 +235,7 @@ no-poll m o (Write t f c) v n s = refl
 no-poll m o (SynchronizeCache t) v n s = refl
 no-poll m o (CloseTrack t) v n s = refl
 no-poll m o CloseSession v n s = refl
+no-poll m o Blank v n s = refl
 no-poll m o TestUnitReady v n s = absurd s
 no-poll m o RequestSense v n s = absurd s
 

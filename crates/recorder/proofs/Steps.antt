@@ -23,10 +23,11 @@ use Rattle.recorder.specs.Rules.{judged, move, left, none, found, refuse
 use Rattle.recorder.specs.Job.{Next, dueAt, commandOf, Turn, goes, turnOf, mostCommands, oneMore, stateOf, nextOf, phaseOf, stepOf, unchanged, stands, restsAt, validOf, giveOf}
 use Rattle.recorder.specs.History.{History, given, commandIn, commands, Ending, going, as-done, as-stop, ending, sooner, ended, phaseIn, Each, Fresh, answered}
 use Rattle.recorder.proofs.Lists.{clash, if-yes, false-true}
-use Rattle.recorder.proofs.Turns.{made}
+use Rattle.recorder.proofs.Turns.{made, Played, then}
 use Rattle.recorder.proofs.Rulings.{refused-next, ruled-at, ruled-stop}
+use Rattle.recorder.proofs.Erasing.{was-recordable}
 use Rattle.recorder.proofs.Behind.{Sized}
-use Rattle.recorder.proofs.Moves.{at, planAt, Stood, Moved, on-to, stops, ends, moved}
+use Rattle.recorder.proofs.Moves.{at, behindAt, planAt, Stood, Moved, on-to, stops, ends, moved}
 use Rattle.recorder.proofs.Makes.{give-made}
 use Rattle.recorder.proofs.States.{stood-stands, stood-fresh}
 
@@ -49,6 +50,7 @@ pub record Going (o : Order) (k : ℕ) (x : Op) (p : Poll) (n : ℕ) (xs : List 
   pub commands-given : commands xs ≡ commandOf (at x p (seen (o .method) es)) ∷ answered es
   pub each : length es ≡ k
   pub fresh : stepwise (o .method) ≡ true → Each Fresh es
+  pub played : Played o es
 
 abbrev pub isEnd : Ruling → Bool
 isEnd (issue c) = false
@@ -175,6 +177,7 @@ module _ (o : Order) (k : ℕ) (x : Op) (p : Poll) (n : ℕ) (xs : List Ruling) 
         commands-given = ap (λ (l : List Command). commandOf (at z q (seen (o .method) (e ∷ es))) ∷ l) (g .commands-given);
         each = omega arith;
         fresh = fresh-then;
+        played = then (g .played) (g .unrefused) (g .plan) y;
       }
 
   -- to an end that the rules say too
@@ -206,7 +209,7 @@ module _ (o : Order) (k : ℕ) (x : Op) (p : Poll) (n : ℕ) (xs : List Ruling) 
   Goal t = Inv (pass o) (suc k) (step (live o x p n xs es) y (stepOf o (at x p v) n t))
 
   next-open : Goal (turnOf o (at x p v) (reading d y))
-  next-open = go (moved o x p v (named es) (g .sized) (g .stood) y)
+  next-open = go (moved o x p v (named es) (g .sized) (was-recordable o es d (behindAt o x p) (g .played) (g .plan)) (g .stood) y)
     where
       go : Moved o x p v (named es) (reading d y) → Goal (turnOf o (at x p v) (reading d y))
       go (on-to z q t j m s) = subst Goal (sym t) (open-so (on z q t j m s))
