@@ -13,22 +13,23 @@ use Rattle.mmc.specs.OrderBlock.{readOrder}
 use Rattle.mmc.specs.ReplyBlock.{Reply, replyOf}
 use Rattle.mmc.specs.declared.order.Order.{Order}
 use Rattle.recorder.specs.declared.script.Op.{Op}
-use Rattle.recorder.specs.declared.script.Op.the-variants.{GetConfiguration}
+use Rattle.recorder.specs.declared.script.Op.the-variants.{GetConfiguration, Blank}
 use Rattle.recorder.specs.declared.answers.Command.{Command}
 use Rattle.recorder.specs.declared.job.Poll.{Poll}
 use Rattle.recorder.specs.declared.job.Poll.the-variants.{Off}
 use Rattle.recorder.specs.declared.job.Recorder.{Recorder}
 use Rattle.recorder.specs.declared.job.Step.{Step}
 use Rattle.recorder.specs.Answers.{Why, because, Ruling, issue, done, stop, madeFor, bytesIn}
-use Rattle.recorder.specs.Script.{isPoll, stepwise, expected, Block}
+use Rattle.recorder.specs.Script.{isPoll, isErasing, stepwise, write, Block}
 use Rattle.recorder.specs.Exchanges.{Exchange, recorded, occupied, polling, progress, seen, named}
 use Rattle.recorder.specs.Rules.{left, none, found, refusal, ruled, exchanged, play, orderedIn, AllClosed}
 use Rattle.recorder.specs.Job.{Next, nextIn, dueAt, commandOf, mostCommands, latestProgress, unchanged, validOf, takenAs, takeOf, giveOf}
-use Rattle.recorder.specs.History.{History, taken, given, givenAll, history, commandIn, commands, going, as-done, as-stop, ending, ended, phaseIn, Accompanied, OfAnswer, Every, Fresh, Unskipped, AllWell, unpolled, answered, AllGood, Whole, Takes, Gives}
+use Rattle.recorder.specs.History.{History, taken, given, givenAll, history, commandIn, commands, going, as-done, as-stop, ending, ended, phaseIn, Accompanied, OfAnswer, Every, Fresh, Unskipped, RightlyErased, ErasesRightly, BlankBefore, WritesOnBlank, exactCount, AllWell, unpolled, answered, AllGood, Whole, Takes, Gives}
 use Rattle.recorder.proofs.Lists.{if-yes, if-no, clash, false-true}
-use Rattle.recorder.proofs.Turns.{Played, played, progress-seen}
+use Rattle.recorder.proofs.Turns.{Played, nothing, played, progress-seen}
 use Rattle.recorder.proofs.Scripts.{script-length}
 use Rattle.recorder.proofs.Rulings.{ruled-at, rule-order, rule-done, due-poll, each-unskipped, rule-stop}
+use Rattle.recorder.proofs.Erasing.{isLater, rightly-erased, on-blank, each-rightly, each-on-blank}
 use Rattle.recorder.proofs.Apart.{rule-apart}
 use Rattle.recorder.proofs.Goods.{never-polling, no-polls, Progressed, under-way, polled, at-end, rule-good}
 use Rattle.recorder.proofs.Witness.{can-pass}
@@ -58,6 +59,7 @@ first (pass o) z =
       commands-given = refl;
       each = refl;
       fresh = λ w. tt;
+      played = nothing;
     })
 first (refuse n) z =
     over-so {k = 0} {h = begun-as (refuse n)}
@@ -122,6 +124,8 @@ record Latest (q : Outcome Order) (k : ℕ) (h : History) : Type 0 where
   given-so : commands (h .answers) ≡ commandIn (ruled q (h .exchanges)) ++ answered (h .exchanges)
   fresh : (o : Order) → q ≡ pass o → stepwise (o .method) ≡ true → Every Fresh (h .exchanges) (h .last .answer)
   unskipped : (o : Order) → q ≡ pass o → Played o (h .exchanges) → OfAnswer (Unskipped (o .immed) (h .exchanges)) (h .last .answer)
+  rightly : (o : Order) → q ≡ pass o → Played o (h .exchanges) → OfAnswer (ErasesRightly o (h .exchanges)) (h .last .answer)
+  on-blank : (o : Order) → q ≡ pass o → Played o (h .exchanges) → OfAnswer (WritesOnBlank o (h .exchanges)) (h .last .answer)
   shows : (o : Order) → q ≡ pass o → Played o (h .exchanges) → ended (h .answers) ≡ going → latestProgress (h .last .state .progress) ≡ if (polling (o .immed) (h .exchanges)) (progress (h .exchanges)) 0
 
 no-commands : (a : Ruling) (l : List Command) → isEnd a ≡ true → l ≡ commandIn a ++ l
@@ -147,8 +151,17 @@ module _ (o : Order) (k : ℕ) (x : Op) (p : Poll) (n : ℕ) (xs : List Ruling) 
 
   -- of the same order
   module _ (r : Order) (i : o ≡ r) where
+    plan-going : left r es ≡ planAt o x p
+    plan-going = ap (λ (q : Order). left q es) (sym i) ∙ g .plan
+
+    rightly-going : Played r es → dueAt x p ≡ Blank → RightlyErased r es
+    rightly-going w e = rightly-erased r es (dueAt x p) (behindAt o x p) w plan-going (ap isErasing e)
+
+    on-blank-going : Played r es → (t f k : ℕ) → dueAt x p ≡ write t f k → BlankBefore r es
+    on-blank-going w t f k e = on-blank r es (dueAt x p) (behindAt o x p) w plan-going (ap isLater e)
+
     unskipped-going : Played r es → isPoll (dueAt x p) ≡ polling (r .immed) es
-    unskipped-going w = due-poll r es (dueAt x p) (behindAt o x p) w (ap (λ (q : Order). left q es) (sym i) ∙ g .plan)
+    unskipped-going w = due-poll r es (dueAt x p) (behindAt o x p) w plan-going
 
     shows-going : Played r es → latestProgress (at x p (seen (o .method) es)) ≡ if (polling (r .immed) es) (progress es) 0
     shows-going w =
@@ -184,6 +197,8 @@ latest-of q k h (open-so {o = o} {x = x} {p = p} {n = n} {xs = xs} {es = es} g) 
           let s : stepwise (o .method) ≡ true = ap (λ (z : Order). stepwise (z .method)) i ∙ w in
           (g .fresh s, stood-fresh o x p (seen (o .method) es) (named es) s (g .stood));
       unskipped = λ a f w. let i : o ≡ a = cc in unskipped-going o k x p n xs es g a i w;
+      rightly = λ a f w. let i : o ≡ a = cc in rightly-going o k x p n xs es g a i w;
+      on-blank = λ a f w. let i : o ≡ a = cc in on-blank-going o k x p n xs es g a i w;
       shows = λ a f w z. let i : o ≡ a = cc in shows-going o k x p n xs es g a i w;
     }
 latest-of q k h (over-so v) =
@@ -202,6 +217,8 @@ latest-of q k h (over-so v) =
       given-so = v .commands-given ∙ no-commands (ruled q (h .exchanges)) (answered (h .exchanges)) (v .rules-over);
       fresh = λ o e w. (v .fresh o e w, no-command (Fresh (h .exchanges)) (h .last .answer) (v .answer-ends));
       unskipped = λ o e w. no-command (Unskipped (o .immed) (h .exchanges)) (h .last .answer) (v .answer-ends);
+      rightly = λ o e w. no-command (ErasesRightly o (h .exchanges)) (h .last .answer) (v .answer-ends);
+      on-blank = λ o e w. no-command (WritesOnBlank o (h .exchanges)) (h .last .answer) (v .answer-ends);
       shows = λ o e w z. absurd (is-over (ruled q (h .exchanges)) (v .rules-over) (sym (v .so-ended) ∙ z));
     }
 
@@ -305,7 +322,7 @@ module _ (b : List ℕ) (rs : List Reply) where
     all-good-by : Progressed o (length rs) es → AllGood o (length rs) es (h .answers)
     all-good-by (under-way x l p c n) =
         let a = given-unpolled in
-        let i : min (unpolled (answered es) + 1) (expected o) ≡ unpolled (answered es) + 1 = omega arith in
+        let i : min (unpolled (answered es) + 1) (exactCount o es) ≡ unpolled (answered es) + 1 = omega arith in
         record {
           exact = λ y. clash (cc (sym (so-ended ∙ x) ∙ y));
           given-count = omega arith ∙ sym (if-no _ _ p ∙ i);
@@ -332,7 +349,7 @@ module _ (b : List ℕ) (rs : List Reply) where
         }
     all-good-by (at-end x l p c n) =
         let a = given-unpolled in
-        let i : min (unpolled (answered es) + 1) (expected o) ≡ expected o = omega arith in
+        let i : min (unpolled (answered es) + 1) (exactCount o es) ≡ exactCount o es = omega arith in
         record {
           exact = λ y. omega arith;
           given-count = omega arith ∙ sym (if-no _ _ p ∙ i);
@@ -380,6 +397,8 @@ module _ (b : List ℕ) (rs : List Reply) where
         is-valid = l .valid;
         never-stale = l .fresh;
         never-skips = λ o e. (each-unskipped o (h .exchanges) (played-here o e), l .unskipped o e (played-here o e));
+        erases-rightly = λ o e. (each-rightly o (h .exchanges) (played-here o e), l .rightly o e (played-here o e));
+        writes-on-blank = λ o e. (each-on-blank o (h .exchanges) (played-here o e), l .on-blank o e (played-here o e));
         phase-so = l .phase-so;
         shows = λ o e z. l .shows o e (played-here o e) z;
       }
@@ -393,7 +412,7 @@ takes b s e =
       step = e;
       begins = record { is-last = e; whole = whole b [] };
       script-length = λ o q. script-length o (read-sized b o q .all);
-      can-pass = λ o q ok profile status su. can-pass o (read-sized b o q) ok profile status su;
+      can-pass = λ o q ok p d su. can-pass o (read-sized b o q) ok p d su;
     }
 
 given-snoc : (h : History) (rs : List Reply) (y : Reply) → givenAll h (rs ++ (y ∷ [])) ≡ given (givenAll h rs) y

@@ -114,7 +114,7 @@ passes o x v n z early s r w j =
     onward-to o x Off v n z s r (ap refusedBy j) (ap (λ (k : Judgement). turnBy k o (at x Off v) r) j) (ap (λ (k : Judgement). move k (x ∷ behind o x)) j) (stood o x r v n z early s w (ap refusedBy j))
 
 -- where the next block goes after an operation that takes Immed
-immed-at : (x : Op) (v : Seen) → takesImmed x ≡ true → past x (v .at) .0 ≡ v .at .0
+pub immed-at : (x : Op) (v : Seen) → takesImmed x ≡ true → past x (v .at) .0 ≡ v .at .0
 immed-at x v c = past-count x (v .at) ∙ none-put x c
   where
     none-put : (x : Op) → takesImmed x ≡ true → v .at .0 + countIn x ≡ v .at .0

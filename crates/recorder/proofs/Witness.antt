@@ -1,12 +1,12 @@
 -- Good replies that the rules pass exist for every order that passes 8, 9 and the lead-out limit, on every disc that passes 5 and 6:
 -- each 52h names where the track before ends, and all blocks are free; the first round of each polling is its last.
 use mathlib.Core.Path.{_≡_, refl, sym, ap, subst, _∙_}
-use mathlib.Core.Bool.{Bool, true, false, not, _&&_}
+use mathlib.Core.Bool.{Bool, true, false, not, _&&_, _||_}
 use mathlib.Core.List.{List, [], _∷_, _++_}
 use Prim.Native.Nat.{ℕ, zero, suc, _+_, _-_, _*_, _/_, _%_, _≤_, _<_, max}
 use native.Mathlib.Omega.{arith}
 use borrow.Author.Tests.{le-ltb, le-leb, ltb-false, eqb-true, not-false}
-use lib.Dec.{leb, eqb, lit<}
+use lib.Dec.{ltb, leb, eqb, lit<, lit≤}
 use lib.ListN.{length, drop, replicate, length-append}
 use Rattle.mmc.specs.Bytes.{if, be32}
 use Rattle.mmc.specs.Refusals.{pass}
@@ -25,25 +25,26 @@ use Rattle.recorder.specs.declared.places.Following.{Following}
 use Rattle.recorder.specs.declared.places.Following.the-variants.{Next as Then, Nothing}
 use Rattle.recorder.specs.declared.job.Poll.{Poll}
 use Rattle.recorder.specs.declared.job.Poll.the-variants.{Off, Ready, Sense}
+use Rattle.recorder.specs.declared.replies.DiscInformation.{DiscInformation}
 use Rattle.recorder.specs.declared.replies.TrackInformation.{TrackInformation}
 use Rattle.recorder.specs.declared.replies.Reading.{Reading}
-use Rattle.recorder.specs.declared.replies.Reading.the-variants.{Malformed, Profile, Status, Information, ProgressIndication, Unread}
+use Rattle.recorder.specs.declared.replies.Reading.the-variants.{Malformed, Profile, Disc, Information, ProgressIndication, Unread}
 use Rattle.recorder.specs.declared.exchanges.Seen.{Seen}
 use Rattle.recorder.specs.Answers.{Ruling}
-use Rattle.recorder.specs.Replies.{wholeProfile, readProfile, wholeDisc, readStatus, wholeInformation, informationOf, readInformation, progressOf, readProgress, reading}
-use Rattle.recorder.specs.Script.{code, isClosing, isPolled, gather, write, blocks, blocksFrom, blocksIn, script}
+use Rattle.recorder.specs.Replies.{wholeProfile, readProfile, wholeDisc, discOf, readDisc, wholeInformation, informationOf, readInformation, progressOf, readProgress, reading}
+use Rattle.recorder.specs.Script.{code, isErasing, takesImmed, isPolled, gather, write, portion, blocks, blocksFrom, blocksIn, script}
 use Rattle.recorder.specs.Exchanges.{Exchange, Named, see, seen, name, named}
-use Rattle.recorder.specs.Rules.{otherProfile, lastStatus, unsuitable, unusable, still, leadOut, lastFrame, fits, openingTests, laterTests, Judgement, onward, trackTests, pollsIf, judge, judged, move, left, none, refusedBy, firstRefused, ruled, exchanged, play}
-use Rattle.recorder.specs.Places.{afterIn}
+use Rattle.recorder.specs.Rules.{otherProfile, lastStatus, unsuitable, unusable, still, leadOut, lastFrame, fits, overlong, used, notErasable, tested, erasingTests, blankTests, discTests, erases, erasingIf, openingTests, laterTests, Judgement, onward, trackTests, pollsIf, judge, judged, move, left, none, refusedBy, firstRefused, ruled, exchanged, play}
+use Rattle.recorder.specs.Places.{pieceEnded, beforeBlock, afterCloseTrack, opAfter, afterIn}
 use Rattle.recorder.specs.Job.{dueAt}
-use Rattle.recorder.specs.History.{AllMarkedGood, Bytes, AllBytes, Passing, Recordable, Suitable}
-use Rattle.recorder.proofs.Lists.{if-yes, if-no, false-true, both, clash, Clear, clear-passes, blocks-length}
-use Rattle.recorder.proofs.Turns.{made, isAsking, Reads, reads}
+use Rattle.recorder.specs.History.{AllMarkedGood, Bytes, AllBytes, discsIn, discs, Passing, Recordable, Suitable}
+use Rattle.recorder.proofs.Lists.{if-yes, if-no, false-true, both, neither, clash, Clear, clear-passes, blocks-length}
+use Rattle.recorder.proofs.Turns.{made, isAsking, Reads, malformed, profile, status, information, indication, ready, unread, reads, profile-seen, erased-seen}
 use Rattle.recorder.proofs.Scripts.{by, each-blocks}
 use Rattle.recorder.proofs.Rulings.{refused-next, ruled-at}
 use Rattle.recorder.proofs.Behind.{Sized, tracksFrom, behind, onto, next-track, goes-on}
 use Rattle.recorder.proofs.Standing.{blocksAfter, Standing, StandingThen, standing-closing, stood, stood-polled}
-use Rattle.recorder.proofs.Moves.{planAt, Stood, standing-goes}
+use Rattle.recorder.proofs.Moves.{planAt, Stood, standing-goes, immed-at}
 
 -- ---- the bytes of the replies
 
@@ -93,12 +94,27 @@ module _ (c q a f : ℕ) where
       let h : 4 ≤ be32 d = omega arith in
       if-yes _ _ (le-leb _ _ h) ∙ ap Profile e
 
-  named-status : q ≤ 1 → readStatus d ≡ Status q
-  unfolding readStatus wholeDisc
-  named-status h =
-      let e : q % 4 ≡ q = omega arith in
-      let z : q / 32 ≡ 0 = omega arith in
-      ap (λ (k : ℕ). if (eqb k 0) (Status (q % 4)) Malformed) z ∙ ap Status e
+  named-disc : (k : ℕ) (b : Bool) → k ≤ 3 → q ≡ k + if b 16 0 → readDisc d ≡ Disc (record { status = k; erasable = b })
+  unfolding readDisc wholeDisc discOf
+  named-disc k b h e =
+      let y : q % 4 ≡ k = status-in k b h e in
+      let x : eqb (q / 16 % 2) 1 ≡ b = bit-in k b h e in
+      let w : q / 32 ≡ 0 = small k b h e in
+      ap (λ (n : ℕ). if (eqb n 0) (Disc (record { status = q % 4; erasable = eqb (q / 16 % 2) 1 })) Malformed) w ∙
+      ap (λ (n : ℕ). Disc (record { status = n; erasable = eqb (q / 16 % 2) 1 })) y ∙
+      ap (λ (c : Bool). Disc (record { status = k; erasable = c })) x
+    where
+      status-in : (k : ℕ) (b : Bool) → k ≤ 3 → q ≡ k + if b 16 0 → q % 4 ≡ k
+      status-in k true h e = omega arith
+      status-in k false h e = omega arith
+
+      small : (k : ℕ) (b : Bool) → k ≤ 3 → q ≡ k + if b 16 0 → q / 32 ≡ 0
+      small k true h e = omega arith
+      small k false h e = omega arith
+
+      bit-in : (k : ℕ) (b : Bool) → k ≤ 3 → q ≡ k + if b 16 0 → eqb (q / 16 % 2) 1 ≡ b
+      bit-in k true h e = let w : q / 16 % 2 ≡ 1 = omega arith in ap (λ (n : ℕ). eqb n 1) w
+      bit-in k false h e = let w : q / 16 % 2 ≡ 0 = omega arith in ap (λ (n : ℕ). eqb n 1) w
 
   named-whole : readInformation d ≡ Information (informationOf d)
   unfolding readInformation wholeInformation
@@ -159,10 +175,54 @@ room-on o (Write t f c) v n s r q =
 room-on o (SynchronizeCache t) v n s r q = r
 room-on o (CloseTrack t) v n s r q = r
 room-on o CloseSession v n s r q = r
+room-on o Blank v n s r q = r
 room-on o TestUnitReady v n s r q = absurd s
 room-on o RequestSense v n s r q = absurd s
 
-module _ (o : Order) (z : Sized o) (ok : Recordable o) (p q : ℕ) (su : Suitable o p q) where
+-- ---- what comes next is never A1h: only the first 51h puts it in front
+
+abbrev NotErasing : Following → Type 0
+NotErasing (Then x) = isErasing x ≡ false
+NotErasing Nothing = Unit {0}
+
+block-plain : (m : Method) (n l k t f : ℕ) → isErasing (beforeBlock m n l k t f) ≡ false
+unfolding beforeBlock pieceEnded
+block-plain m n l k t f = go (ltb f l)
+  where
+    over : (m : Method) → isErasing (pieceEnded m n k t) ≡ false
+    over Tao = refl
+    over Sao = by-track (ltb t n)
+      where
+        by-track : (b : Bool) → isErasing (if b (write (suc t) 0 (portion k 0)) (SynchronizeCache (record { 0 = t }))) ≡ false
+        by-track true = refl
+        by-track false = refl
+
+    go : (b : Bool) → isErasing (if b (write t f (portion l f)) (pieceEnded m n k t)) ≡ false
+    go true = refl
+    go false = over m
+
+after-plain : (m : Method) (n l k : ℕ) (x : Op) → NotErasing (opAfter m n l k x)
+unfolding afterCloseTrack
+after-plain m n l k GetConfiguration = refl
+after-plain m n l k ReadDiscInformation = refl
+after-plain m n l k (ReadTrackInformation t) = refl
+after-plain Tao n l k (ModeSelect t) = block-plain Tao n l k (t .0) 0
+after-plain Sao n l k (ModeSelect t) = refl
+after-plain m n l k SendCueSheet = block-plain m n l k 0 0
+after-plain m n l k (Write t f c) = block-plain m n l k (t .0) (f .0 + c .0)
+after-plain Tao n l k (SynchronizeCache t) = refl
+after-plain Sao n l k (SynchronizeCache t) = tt
+after-plain m n l k (CloseTrack t) = go (ltb (t .0) n)
+  where
+    go : (b : Bool) → isErasing (if b (ReadTrackInformation (record { 0 = suc (t .0) })) CloseSession) ≡ false
+    go true = refl
+    go false = refl
+after-plain m n l k CloseSession = tt
+after-plain m n l k Blank = refl
+after-plain m n l k TestUnitReady = tt
+after-plain m n l k RequestSense = tt
+
+module _ (o : Order) (z : Sized o) (ok : Recordable o) (p : ℕ) (d : DiscInformation) (su : Suitable o p d) where
   low-profile : p < 256
   unfolding otherProfile
   low-profile = go (eqb p 0x0009) refl (su .profile-so)
@@ -171,13 +231,46 @@ module _ (o : Order) (z : Sized o) (ok : Recordable o) (p q : ℕ) (su : Suitabl
       go true e h = let k : p ≡ 9 = eqb-true _ _ e in omega arith
       go false e h = let k : p ≡ 10 = eqb-true _ _ (not-false _ h) in omega arith
 
-  low-status : q ≤ 1
+  -- with the flag and without
+  erasable-so : o .erase ≡ true → (ltb 2 (d .status) ≡ false) × (notErasable p d ≡ false)
+  erasable-so e = neither (ltb 2 (d .status)) (notErasable p d) (ap (λ (b : Bool). if b (ltb 2 (d .status) || notErasable p d) (unsuitable (o .method) (d .status))) (sym e) ∙ su .disc-so)
+
+  suitable-so : o .erase ≡ false → unsuitable (o .method) (d .status) ≡ false
+  suitable-so e = ap (λ (b : Bool). if b (ltb 2 (d .status) || notErasable p d) (unsuitable (o .method) (d .status))) (sym e) ∙ su .disc-so
+
+  low-status : d .status ≤ 3
   unfolding unsuitable
-  low-status = go (o .method) (ltb-false _ _ (su .status-so))
+  low-status = go (o .erase) refl
     where
-      go : (m : Method) → q ≤ lastStatus m → q ≤ 1
-      go Tao h = h
-      go Sao h = omega arith
+      by-method : (m : Method) → d .status ≤ lastStatus m → d .status ≤ 3
+      by-method Tao h = omega arith
+      by-method Sao h = omega arith
+
+      go : (b : Bool) → o .erase ≡ b → d .status ≤ 3
+      go true e = let h : d .status ≤ 2 = ltb-false _ _ (erasable-so e .0) in omega arith
+      go false e = by-method (o .method) (ltb-false _ _ (suitable-so e))
+
+  -- an erasing takes place
+  abbrev wipes : Bool
+  wipes = o .erase && used (d .status)
+
+  -- what 51h is told of the disc, and byte 2 of the reply
+  abbrev discFor : Bool → DiscInformation
+  discFor was = if was (record { status = 0; erasable = false }) d
+
+  abbrev secondBy : Bool → ℕ
+  secondBy was = if was 0 (d .status + if (d .erasable) 16 0)
+
+  abbrev second : Seen → ℕ
+  second v = secondBy (v .erased)
+
+  low-second : (b : Bool) → secondBy b < 256
+  low-second true = lit< tt
+  low-second false = go (d .erasable)
+    where
+      go : (b : Bool) → d .status + if b 16 0 < 256
+      go true = let h = low-status in omega arith
+      go false = let h = low-status in omega arith
 
   abbrev all : ℕ
   all = blocksOf (tracksIn o)
@@ -188,7 +281,7 @@ module _ (o : Order) (z : Sized o) (ok : Recordable o) (p q : ℕ) (su : Suitabl
 
   -- 03h is told that there is no progress
   abbrev told : Op → Seen → List ℕ
-  told x v = if (eqb (code x) 0x03) (replicate 18 0) (naming (seventh x) q (v .at .0 - leadFrames) all)
+  told x v = if (eqb (code x) 0x03) (replicate 18 0) (naming (seventh x) (second v) (v .at .0 - leadFrames) all)
 
   abbrev replyTo : Op → Seen → Reply
   replyTo x v = replyOf true (told x v)
@@ -200,107 +293,126 @@ module _ (o : Order) (z : Sized o) (ok : Recordable o) (p q : ℕ) (su : Suitabl
       go true = low-profile
       go false = lit< tt
 
-      by-code : (b : Bool) → Bytes (if b (replicate 18 0) (naming (seventh x) q (v .at .0 - leadFrames) all))
+      by-code : (b : Bool) → Bytes (if b (replicate 18 0) (naming (seventh x) (second v) (v .at .0 - leadFrames) all))
       by-code true = low-bytes (low-zeros 18)
-      by-code false = let l = low-status in naming-bytes (seventh x) q (v .at .0 - leadFrames) all (go (eqb (code x) 0x46)) (omega arith)
+      by-code false = naming-bytes (seventh x) (second v) (v .at .0 - leadFrames) all (go (eqb (code x) 0x46)) (low-second (v .erased))
 
   -- ---- the tests of a 52h
 
-  abbrev informed : ℕ → TrackInformation
-  informed at = informationOf (naming 9 q (at - leadFrames) all)
+  abbrev informed : ℕ → ℕ → TrackInformation
+  informed q at = informationOf (naming 9 q (at - leadFrames) all)
 
-  usable-so : (m : Method) (at : FrameCount) → at .0 < 4294967296 → unusable m at (informed (at .0)) ≡ false
+  usable-so : (m : Method) (q : ℕ) (at : FrameCount) → at .0 < 4294967296 → unusable m at (informed q (at .0)) ≡ false
   unfolding unusable informationOf
-  usable-so Tao at h =
+  usable-so Tao q at h =
       let s = named-start 9 q (at .0 - leadFrames) all (omega arith) in
-      let l : at .0 ≤ framesTo (informed (at .0) .address) .0 = omega arith in
+      let l : at .0 ≤ framesTo (informed q (at .0) .address) .0 = omega arith in
       le-ltb _ _ l
-  usable-so Sao at h = refl
+  usable-so Sao q at h = refl
 
-  fits-so : (m : Method) (s at : ℕ) → s ≤ all → at < 4294967296 → leadOut m s (informed at) ≤ lastFrame → not (fits m s (informed at)) ≡ false
+  fits-so : (m : Method) (q s at : ℕ) → s ≤ all → at < 4294967296 → leadOut m s (informed q at) ≤ lastFrame → not (fits m s (informed q at)) ≡ false
   unfolding fits
-  fits-so m s at h k l =
+  fits-so m q s at h k l =
       let e = ok .ends in
       let f = named-free 9 q (at - leadFrames) all (omega arith) in
-      let r : s ≤ informed at .free .0 = omega arith in
-      ap not (ap (λ (b : Bool). b && leb (leadOut m s (informed at)) lastFrame) (le-leb _ _ r) ∙ le-leb _ _ l)
+      let r : s ≤ informed q at .free .0 = omega arith in
+      ap not (ap (λ (b : Bool). b && leb (leadOut m s (informed q at)) lastFrame) (le-leb _ _ r) ∙ le-leb _ _ l)
 
   -- all or some of the tests pass
-  clear-by : (t : ℕ) (v : Seen) (i : TrackInformation) → v .profile ≡ p → v .status ≡ q → unusable (o .method) (v .at) i ≡ false → not (fits (o .method) (still o t) i) ≡ false → Clear (trackTests o t v i)
-  clear-by t v i a b u f = go (eqb t 1)
+  clear-by : (t : ℕ) (v : Seen) (i : TrackInformation) → v .profile ≡ p → (o .erase ≡ false → v .status ≡ d .status) → unusable (o .method) (v .at) i ≡ false → not (fits (o .method) (still o t) i) ≡ false → Clear (trackTests o t v i)
+  clear-by t v i a b u f = go (eqb t 1) (o .erase) refl
     where
-      go : (c : Bool) → Clear (if c (openingTests o t v i) (laterTests o t v i))
-      go true = (ap otherProfile a ∙ su .profile-so, (ap (unsuitable (o .method)) b ∙ su .status-so, (u, (ok .alike, (ap not (ok .long), (f, tt))))))
-      go false = (u, (f, tt))
+      go : (c w : Bool) → o .erase ≡ w → Clear (if (c && not w) (openingTests o t v i) (laterTests o t v i))
+      go true false e = (ap otherProfile a ∙ su .profile-so, (ap (unsuitable (o .method)) (b e) ∙ suitable-so e, (u, (ok .alike, (ap not (ok .long), (f, tt))))))
+      go true true e = (u, (f, tt))
+      go false w e = (u, (f, tt))
 
   still-first : still o 1 ≡ all
   still-first = refl
 
-  clear-52 : (m : Method) → o .method ≡ m → (t : TrackNumber) (v : Seen) (n : Named) → Standing m (by o m) (ReadTrackInformation t) v n → RoomBy m o (v .at) (ReadTrackInformation t ∷ behind (by o m) (ReadTrackInformation t)) → v .profile ≡ p → v .status ≡ q → Clear (trackTests o (t .0) v (informed (v .at .0)))
+  clear-52 : (m : Method) → o .method ≡ m → (t : TrackNumber) (v : Seen) (n : Named) → Standing m (by o m) (ReadTrackInformation t) v n → RoomBy m o (v .at) (ReadTrackInformation t ∷ behind (by o m) (ReadTrackInformation t)) → v .profile ≡ p → (o .erase ≡ false → v .status ≡ d .status) → Clear (trackTests o (t .0) v (informed (second v) (v .at .0)))
   clear-52 Tao e t v n s r a b =
       let k = track-ahead o (t .0) (s .one) (s .few) (z .all) in
       let w = ok .ends in
       let h : v .at .0 < 4294967296 = omega arith in
-      let c = named-start 9 q (v .at .0 - leadFrames) all (omega arith) in
-      let l : leadOut Tao (still o (t .0)) (informed (v .at .0)) ≤ lastFrame = omega arith in
-      clear-by (t .0) v (informed (v .at .0)) a b (ap (λ (x : Method). unusable x (v .at) (informed (v .at .0))) e ∙ usable-so Tao (v .at) h)
-      (ap (λ (x : Method). not (fits x (still o (t .0)) (informed (v .at .0)))) e ∙ fits-so Tao (still o (t .0)) (v .at .0) (omega arith) h l)
+      let c = named-start 9 (second v) (v .at .0 - leadFrames) all (omega arith) in
+      let l : leadOut Tao (still o (t .0)) (informed (second v) (v .at .0)) ≤ lastFrame = omega arith in
+      clear-by (t .0) v (informed (second v) (v .at .0)) a b (ap (λ (x : Method). unusable x (v .at) (informed (second v) (v .at .0))) e ∙ usable-so Tao (second v) (v .at) h)
+      (ap (λ (x : Method). not (fits x (still o (t .0)) (informed (second v) (v .at .0)))) e ∙ fits-so Tao (second v) (still o (t .0)) (v .at .0) (omega arith) h l)
   clear-52 Sao e t v n s r a b =
       let w = ok .ends in
       let g = s .1 in
       let h : v .at .0 < 4294967296 = omega arith in
       let k : still o (t .0) ≡ all = ap (still o) (s .0) in
-      let l : leadOut Sao (still o (t .0)) (informed (v .at .0)) ≤ lastFrame = omega arith in
-      clear-by (t .0) v (informed (v .at .0)) a b (ap (λ (x : Method). unusable x (v .at) (informed (v .at .0))) e ∙ usable-so Sao (v .at) h)
-      (ap (λ (x : Method). not (fits x (still o (t .0)) (informed (v .at .0)))) e ∙ fits-so Sao (still o (t .0)) (v .at .0) (omega arith) h l)
+      let l : leadOut Sao (still o (t .0)) (informed (second v) (v .at .0)) ≤ lastFrame = omega arith in
+      clear-by (t .0) v (informed (second v) (v .at .0)) a b (ap (λ (x : Method). unusable x (v .at) (informed (second v) (v .at .0))) e ∙ usable-so Sao (second v) (v .at) h)
+      (ap (λ (x : Method). not (fits x (still o (t .0)) (informed (second v) (v .at .0)))) e ∙ fits-so Sao (second v) (still o (t .0)) (v .at .0) (omega arith) h l)
+
+  -- ---- the tests of a 51h
+
+  early-clear : (v : Seen) → v .profile ≡ p → o .erase ≡ true → Clear (erasingTests o (v .profile) d)
+  unfolding overlong
+  early-clear v a e =
+      let n = ok .ends in
+      let i = erasable-so e in
+      (ap otherProfile a ∙ su .profile-so, (i .0, (ok .alike, (ap not (ok .long), (le-ltb _ _ (ok .ends), (ap (λ (k : ℕ). notErasable k d) a ∙ i .1, tt))))))
+
+  -- the first one puts an erasing in front if one takes place, and the one after it nothing
+  passes-51 : (v : Seen) → v .profile ≡ p → (b : Bool) → v .erased ≡ b → judge o v ReadDiscInformation (Disc (discFor b)) ≡ onward (erasingIf (not b && wipes))
+  passes-51 v a b q = go (o .erase) b refl q
+    where
+      go : (w b : Bool) → o .erase ≡ w → v .erased ≡ b → tested (discTests w o v (discFor b)) (erasingIf (erases w (v .erased) (discFor b .status))) ≡ onward (erasingIf (not b && (w && used (d .status))))
+      go false true e f = refl
+      go false false e f = refl
+      go true true e f =
+          ap (λ (c : Bool). tested (if c (blankTests (discFor true)) (erasingTests o (v .profile) (discFor true))) (erasingIf (not c && used 0))) f
+      go true false e f =
+          ap (λ (c : Bool). tested (if c (blankTests d) (erasingTests o (v .profile) d)) (erasingIf (not c && used (d .status)))) f ∙
+          clear-passes (erasingTests o (v .profile) d) (erasingIf (used (d .status))) (early-clear v a e)
+
+  reads-51 : (v : Seen) → readDisc (naming 9 (second v) (v .at .0 - leadFrames) all) ≡ Disc (discFor (v .erased))
+  reads-51 v = go (v .erased)
+    where
+      go : (b : Bool) → readDisc (naming 9 (secondBy b) (v .at .0 - leadFrames) all) ≡ Disc (discFor b)
+      go true = named-disc 9 0 (v .at .0 - leadFrames) all 0 false (lit≤ tt) refl
+      go false = named-disc 9 (secondBy false) (v .at .0 - leadFrames) all (d .status) (d .erasable) low-status refl
 
   -- ---- one reply more
 
-  abbrev Both : Seen → Type 0
-  Both v = (v .profile ≡ p) × (v .status ≡ q)
+  abbrev Discs : Type 0
+  Discs = List DiscInformation
 
-  -- what is known where an operation is due
-  abbrev Known : Op → Seen → Type 0
-  Known GetConfiguration v = Unit {0}
-  Known ReadDiscInformation v = v .profile ≡ p
-  Known (ReadTrackInformation t) v = Both v
-  Known (ModeSelect t) v = Both v
-  Known SendCueSheet v = Both v
-  Known (Write t f k) v = Both v
-  Known (SynchronizeCache t) v = Both v
-  Known (CloseTrack t) v = Both v
-  Known CloseSession v = Both v
-  Known TestUnitReady v = Both v
-  Known RequestSense v = Both v
+  -- what is known once the disc is as it shall be
+  record Known (v : Seen) (ds : Discs) : Type 0 where
+    profile-known : v .profile ≡ p
+    status-known : o .erase ≡ false → v .status ≡ d .status
+    erased-known : v .erased ≡ wipes
+    discs-known : (more : Discs) × (ds ≡ d ∷ more)
+
+  more-discs : (ds xs : Discs) → (more : Discs) × (ds ≡ d ∷ more) → (more : Discs) × (ds ++ xs ≡ d ∷ more)
+  more-discs ds xs k = (k .0 ++ xs, ap (λ (l : Discs). l ++ xs) (k .1))
+
+  still-known : (v w : Seen) (ds : Discs) → w .profile ≡ v .profile → w .status ≡ v .status → w .erased ≡ v .erased → Known v ds → Known w (ds ++ [])
+  still-known v w ds a b c k =
+      record { profile-known = a ∙ k .profile-known; status-known = λ e. b ∙ k .status-known e; erased-known = c ∙ k .erased-known; discs-known = more-discs ds [] (k .discs-known) }
 
   -- a reply that passes, and what is known and ahead then
-  record Told (x : Op) (v : Seen) (r : Reading) : Type 0 where
+  record Told (x : Op) (v : Seen) (ds : Discs) (r : Reading) : Type 0 where
     passes : judge o v x r ≡ pollsIf (isPolled (o .immed) x)
-    knows : (l : List Op) (y : Op) → behind o x ≡ y ∷ l → Known y (see (o .method) x r v)
-    ends-known : behind o x ≡ [] → Both (see (o .method) x r v)
-    closes-known : isClosing x ≡ true → Both (see (o .method) x r v)
+    knows : Known (see (o .method) x r v) (ds ++ discsIn r)
     room : RoomBy (o .method) o (see (o .method) x r v .at) (behind o x)
-
-  all-known : (y : Op) (v : Seen) → Both v → Known y v
-  all-known GetConfiguration v b = tt
-  all-known ReadDiscInformation v b = b .0
-  all-known (ReadTrackInformation t) v b = b
-  all-known (ModeSelect t) v b = b
-  all-known SendCueSheet v b = b
-  all-known (Write t f k) v b = b
-  all-known (SynchronizeCache t) v b = b
-  all-known (CloseTrack t) v b = b
-  all-known CloseSession v b = b
-  all-known TestUnitReady v b = b
-  all-known RequestSense v b = b
 
   same-room : (m : Method) (at : FrameCount) (x : Op) (l : List Op) → ahead (x ∷ l) ≡ ahead l → RoomBy m o at (x ∷ l) → RoomBy m o at l
   same-room Tao at x l e r = omega arith
   same-room Sao at x l e r = tt
 
+  erasing-room : (m : Method) (at : FrameCount) (l : List Op) → RoomBy m o at l → RoomBy m o at (Blank ∷ l)
+  erasing-room Tao at l r = r
+  erasing-room Sao at l r = tt
+
   -- after a 52h the track starts where the one before ended
-  start-room : (m : Method) (t : TrackNumber) (v : Seen) (l : List Op) → v .at .0 < 4294967296 → RoomBy m o (v .at) (ReadTrackInformation t ∷ l) → RoomBy m o (see m (ReadTrackInformation t) (Information (informed (v .at .0))) v .at) l
-  start-room Tao t v l h r = let c = named-start 9 q (v .at .0 - leadFrames) all (omega arith) in omega arith
+  start-room : (m : Method) (t : TrackNumber) (v : Seen) (l : List Op) → v .at .0 < 4294967296 → RoomBy m o (v .at) (ReadTrackInformation t ∷ l) → RoomBy m o (see m (ReadTrackInformation t) (Information (informed (second v) (v .at .0))) v .at) l
+  start-room Tao t v l h r = let c = named-start 9 (second v) (v .at .0 - leadFrames) all (omega arith) in omega arith
   start-room Sao t v l h r = tt
 
   early : (m : Method) (t : TrackNumber) (v : Seen) (n : Named) (l : List Op) → Standing m (by o m) (ReadTrackInformation t) v n → RoomBy m o (v .at) l → v .at .0 < 4294967296
@@ -311,40 +423,66 @@ module _ (o : Order) (z : Sized o) (ok : Recordable o) (p q : ℕ) (su : Suitabl
   unread-room Tao x v n s r e = room-on o x v n s r e
   unread-room Sao x v n s r e = tt
 
-  abbrev ToldBy : Op → Seen → Type 0
-  ToldBy x v = Told x v (reading x (replyTo x v))
+  abbrev ToldBy : Op → Seen → Discs → Type 0
+  ToldBy x v ds = Told x v ds (reading x (replyTo x v))
 
-  told-unread : (x : Op) (v : Seen) (n : Named) → Standing (o .method) o x v n → Both v → RoomBy (o .method) o (v .at) (x ∷ behind o x) → isAsking x ≡ false → Told x v Unread
-  told-unread x v n s k r e =
-      record { passes = refl; knows = λ l y f. all-known y _ k; ends-known = λ f. k; closes-known = λ f. k; room = unread-room (o .method) x v n s r e }
+  told-unread : (x : Op) (v : Seen) (ds : Discs) (n : Named) → Standing (o .method) o x v n → isErasing x ≡ false → Known v ds → RoomBy (o .method) o (v .at) (x ∷ behind o x) → isAsking x ≡ false → Told x v ds Unread
+  told-unread x v ds n s i k r e =
+      record {
+        passes = refl;
+        knows =
+            record {
+              profile-known = k .profile-known;
+              status-known = k .status-known;
+              erased-known = ap (λ (b : Bool). b || v .erased) i ∙ k .erased-known;
+              discs-known = more-discs ds [] (k .discs-known);
+            };
+        room = unread-room (o .method) x v n s r e;
+      }
 
-  told-next : (x : Op) (v : Seen) (n : Named) → Standing (o .method) o x v n → Known x v → RoomBy (o .method) o (v .at) (x ∷ behind o x) → ToldBy x v
-  told-next GetConfiguration v n s k r =
-      subst (Told GetConfiguration v) (sym (named-profile p q (v .at .0 - leadFrames) all))
-      (record { passes = refl; knows = λ l y f. first-known y (cc); ends-known = λ f. clash (cc); closes-known = λ f. absurd (false-true f); room = same-room (o .method) (v .at) GetConfiguration _ refl r })
+  told-51 : (v : Seen) (ds : Discs) → Known v ds → RoomBy (o .method) o (v .at) (ReadDiscInformation ∷ behind o ReadDiscInformation) → Told ReadDiscInformation v ds (Disc (discFor (v .erased)))
+  told-51 v ds k r =
+      record {
+        passes = passes-51 v (k .profile-known) (v .erased) refl ∙ ap (λ (b : Bool). onward (erasingIf b)) (ap (λ (b : Bool). not b && wipes) (k .erased-known) ∙ once wipes);
+        knows =
+            record {
+              profile-known = k .profile-known;
+              status-known = λ e. ap (λ (b : Bool). discFor b .status) (k .erased-known ∙ ap (λ (b : Bool). b && used (d .status)) e);
+              erased-known = k .erased-known;
+              discs-known = more-discs ds _ (k .discs-known);
+            };
+        room = same-room (o .method) (v .at) ReadDiscInformation _ refl r;
+      }
     where
-      first-known : (y : Op) → ReadDiscInformation ≡ y → Known y (see (o .method) GetConfiguration (Profile p) v)
-      first-known y e = subst (λ (x : Op). Known x (see (o .method) GetConfiguration (Profile p) v)) e refl
-  told-next ReadDiscInformation v n s k r =
-      subst (Told ReadDiscInformation v) (sym (named-status 9 q (v .at .0 - leadFrames) all low-status))
-      (record { passes = refl; knows = λ l y f. all-known y _ (k, refl); ends-known = λ f. (k, refl); closes-known = λ f. absurd (false-true f); room = same-room (o .method) (v .at) ReadDiscInformation _ refl r })
-  told-next (ReadTrackInformation t) v n s k r =
-      subst (Told (ReadTrackInformation t) v) (sym (named-whole 9 q (v .at .0 - leadFrames) all))
+      once : (b : Bool) → not b && b ≡ false
+      once true = refl
+      once false = refl
+
+  told-next : (x : Op) (v : Seen) (ds : Discs) (n : Named) → Standing (o .method) o x v n → isErasing x ≡ false → Known v ds → RoomBy (o .method) o (v .at) (x ∷ behind o x) → ToldBy x v ds
+  told-next GetConfiguration v ds n s i k r =
+      subst (Told GetConfiguration v ds) (sym (named-profile p (second v) (v .at .0 - leadFrames) all))
       (record {
-        passes = clear-passes (trackTests o (t .0) v (informed (v .at .0))) (clear-52 (o .method) refl t v n s r (k .0) (k .1));
-        knows = λ l y f. all-known y _ k;
-        ends-known = λ f. k;
-        closes-known = λ f. absurd (false-true f);
+        passes = refl;
+        knows = record { profile-known = refl; status-known = k .status-known; erased-known = k .erased-known; discs-known = more-discs ds [] (k .discs-known) };
+        room = same-room (o .method) (v .at) GetConfiguration _ refl r;
+      })
+  told-next ReadDiscInformation v ds n s i k r = subst (Told ReadDiscInformation v ds) (sym (reads-51 v)) (told-51 v ds k r)
+  told-next (ReadTrackInformation t) v ds n s i k r =
+      subst (Told (ReadTrackInformation t) v ds) (sym (named-whole 9 (second v) (v .at .0 - leadFrames) all))
+      (record {
+        passes = clear-passes (trackTests o (t .0) v (informed (second v) (v .at .0))) [] (clear-52 (o .method) refl t v n s r (k .profile-known) (k .status-known));
+        knows = record { profile-known = k .profile-known; status-known = k .status-known; erased-known = k .erased-known; discs-known = more-discs ds [] (k .discs-known) };
         room = start-room (o .method) t v _ (early (o .method) t v n _ s r) r;
       })
-  told-next (ModeSelect t) v n s k r = told-unread (ModeSelect t) v n s k r refl
-  told-next SendCueSheet v n s k r = told-unread SendCueSheet v n s k r refl
-  told-next (Write t f c) v n s k r = told-unread (Write t f c) v n s k r refl
-  told-next (SynchronizeCache t) v n s k r = told-unread (SynchronizeCache t) v n s k r refl
-  told-next (CloseTrack t) v n s k r = told-unread (CloseTrack t) v n s k r refl
-  told-next CloseSession v n s k r = told-unread CloseSession v n s k r refl
-  told-next TestUnitReady v n s k r = absurd s
-  told-next RequestSense v n s k r = absurd s
+  told-next (ModeSelect t) v ds n s i k r = told-unread (ModeSelect t) v ds n s i k r refl
+  told-next SendCueSheet v ds n s i k r = told-unread SendCueSheet v ds n s i k r refl
+  told-next (Write t f c) v ds n s i k r = told-unread (Write t f c) v ds n s i k r refl
+  told-next (SynchronizeCache t) v ds n s i k r = told-unread (SynchronizeCache t) v ds n s i k r refl
+  told-next (CloseTrack t) v ds n s i k r = told-unread (CloseTrack t) v ds n s i k r refl
+  told-next CloseSession v ds n s i k r = told-unread CloseSession v ds n s i k r refl
+  told-next Blank v ds n s i k r = absurd (false-true (sym i))
+  told-next TestUnitReady v ds n s i k r = absurd s
+  told-next RequestSense v ds n s i k r = absurd s
 
   -- ---- the exchanges that such replies lead to
 
@@ -354,18 +492,10 @@ module _ (o : Order) (z : Sized o) (ok : Recordable o) (p q : ℕ) (su : Suitabl
   RoomAt Ready x at = RoomBy (o .method) o at (behind o x)
   RoomAt Sense x at = RoomBy (o .method) o at (behind o x)
 
-  abbrev KnownAt : Poll → Op → Seen → Type 0
-  KnownAt Off x v = Known x v
-  KnownAt Ready x v = Both v
-  KnownAt Sense x v = Both v × (v .ready ≡ true)
-
-  data Stage (l : List Op) (v : Seen) (n : Named) : Type 0 where
-    at-op : (x : Op) (p : Poll) → l ≡ planAt o x p → Stood o x p v n → KnownAt p x v → RoomAt p x (v .at) → Stage l v n
-    over : l ≡ [] → Both v → Stage l v n
-
-  record Packed (es : List Exchange) : Type 0 where
-    unrefused : firstRefused o es ≡ none
-    stage : Stage (left o es) (seen (o .method) es) (named es)
+  abbrev KnownAt : Poll → Seen → Discs → Type 0
+  KnownAt Off v ds = Known v ds
+  KnownAt Ready v ds = Known v ds
+  KnownAt Sense v ds = Known v ds × (v .ready ≡ true)
 
   -- the replies that are still to come, if each polling takes one round
   abbrev weight : Op → ℕ
@@ -375,6 +505,22 @@ module _ (o : Order) (z : Sized o) (ok : Recordable o) (p q : ℕ) (su : Suitabl
   weigh [] = 0
   weigh (x ∷ l) = weight x + weigh l
 
+  -- and those for an erasing before it is put in front
+  abbrev wiping : ℕ
+  wiping = if wipes (weight Blank + 1) 0
+
+  -- before 46h, before the first 51h, before an A1h, and from then on; with c replies still to come
+  data Stage (c : ℕ) (l : List Op) (v : Seen) (n : Named) (ds : Discs) : Type 0 where
+    at-first : l ≡ planAt o GetConfiguration Off → Standing (o .method) o GetConfiguration v n → v .erased ≡ false → ds ≡ [] → RoomAt Off GetConfiguration (v .at) → c ≡ weigh l + wiping → Stage c l v n ds
+    at-disc : l ≡ planAt o ReadDiscInformation Off → Standing (o .method) o ReadDiscInformation v n → v .profile ≡ p → v .erased ≡ false → ds ≡ [] → RoomAt Off ReadDiscInformation (v .at) → c ≡ weigh l + wiping → Stage c l v n ds
+    at-erasing : l ≡ planAt o Blank Off → Standing (o .method) o Blank v n → v .profile ≡ p → wipes ≡ true → ds ≡ d ∷ [] → RoomAt Off Blank (v .at) → c ≡ weigh l → Stage c l v n ds
+    at-op : (x : Op) (p : Poll) → l ≡ planAt o x p → Stood o x p v n → isErasing (dueAt x p) ≡ false → KnownAt p v ds → RoomAt p x (v .at) → c ≡ weigh l → Stage c l v n ds
+    over : l ≡ [] → Known v ds → c ≡ 0 → Stage c l v n ds
+
+  record Packed (c : ℕ) (es : List Exchange) : Type 0 where
+    unrefused : firstRefused o es ≡ none
+    stage : Stage c (left o es) (seen (o .method) es) (named es) (discs es)
+
   abbrev replyFor : List Op → Seen → Reply
   replyFor [] v = replyTo GetConfiguration v
   replyFor (x ∷ l) v = replyTo x v
@@ -383,115 +529,182 @@ module _ (o : Order) (z : Sized o) (ok : Recordable o) (p q : ℕ) (su : Suitabl
   reply es = replyFor (left o es) (seen (o .method) es)
 
   -- to the operation behind one, or to the end
-  behind-stage : (x : Op) (v w : Seen) (n k : Named) → Standing (o .method) o x v n → StandingThen (o .method) o (afterIn o x) w k → ((l : List Op) (y : Op) → behind o x ≡ y ∷ l → Known y w) → (behind o x ≡ [] → Both w) → RoomBy (o .method) o (w .at) (behind o x) → Stage (behind o x) w k
-  behind-stage x v w n k s h f g r = go (afterIn o x) refl h
+  behind-stage : (x : Op) (v w : Seen) (n k : Named) (ds : Discs) → Standing (o .method) o x v n → StandingThen (o .method) o (afterIn o x) w k → Known w ds → RoomBy (o .method) o (w .at) (behind o x) → Stage (weigh (behind o x)) (behind o x) w k ds
+  behind-stage x v w n k ds s h b r = go (afterIn o x) refl h (after-plain (o .method) (o .count) _ _ x)
     where
       on : (a : Following) → afterIn o x ≡ a → behind o x ≡ onto o a
       on a e = goes-on o x z (standing-goes (o .method) o x v n z s) ∙ ap (onto o) e
 
-      go : (a : Following) → afterIn o x ≡ a → StandingThen (o .method) o (afterIn o x) w k → Stage (behind o x) w k
-      go (Then y) e h =
-          at-op y Off (on (Then y) e) (record { standing = subst (λ (a : Following). StandingThen (o .method) o a w k) e h; polled-at = tt }) (f (behind o y) y (on (Then y) e))
-          (subst (λ (l : List Op). RoomBy (o .method) o (w .at) l) (on (Then y) e) r)
-      go Nothing e h = over (on Nothing e) (g (on Nothing e))
+      go : (a : Following) → afterIn o x ≡ a → StandingThen (o .method) o (afterIn o x) w k → NotErasing (afterIn o x) → Stage (weigh (behind o x)) (behind o x) w k ds
+      go (Then y) e h i =
+          at-op y Off (on (Then y) e) (record { standing = subst (λ (a : Following). StandingThen (o .method) o a w k) e h; polled-at = tt }) (subst NotErasing e i) b
+          (subst (λ (l : List Op). RoomBy (o .method) o (w .at) l) (on (Then y) e) r) refl
+      go Nothing e h i = over (on Nothing e) b (ap weigh (on Nothing e))
 
   -- what a reply leads to: a judgement that refuses nothing, and one reply less to come
-  record Led (l : List Op) (j : Judgement) (w : Seen) (k : Named) : Type 0 where
+  record Led (c : ℕ) (l : List Op) (j : Judgement) (w : Seen) (k : Named) (ds : Discs) : Type 0 where
     unrefusing : refusedBy j ≡ none
-    stage : Stage (move j l) w k
-    lighter : weigh (move j l) + 1 ≡ weigh l
+    stage : Stage (c - 1) (move j l) w k ds
+
+  fewer : (c b : ℕ) (l : List Op) (w : Seen) (k : Named) (ds : Discs) → c ≡ 1 + b → Stage b l w k ds → Stage (c - 1) l w k ds
+  fewer c b l w k ds e s = let q : b ≡ c - 1 = omega arith in subst (λ (i : ℕ). Stage i l w k ds) q s
+
+  -- where the next block goes stays where an operation takes Immed
+  immed-kept : (m : Method) (x : Op) (r : Reading) (v : Seen) → takesImmed x ≡ true → Reads x true r → see m x r v .at .0 ≡ v .at .0
+  immed-kept m x r v c (malformed a) = refl
+  immed-kept m x r v c profile = refl
+  immed-kept m x r v c status = refl
+  immed-kept m x r v c information = absurd (false-true c)
+  immed-kept m x r v c indication = refl
+  immed-kept m x r v c ready = refl
+  immed-kept m x r v c (unread q i) = immed-at x v c
 
   -- an operation is answered
-  led-off : (x : Op) (v : Seen) (n : Named) (r : Reading) → Standing (o .method) o x v n → Reads x true r → Told x v r → Led (x ∷ behind o x) (judge o v x r) (see (o .method) x r v) (name x r n)
-  led-off x v n r s w t = subst (λ (j : Judgement). Led (x ∷ behind o x) j (see (o .method) x r v) (name x r n)) (sym (t .passes)) (go (isPolled (o .immed) x) refl)
+  led-off : (x : Op) (v : Seen) (n : Named) (ds : Discs) (r : Reading) → Standing (o .method) o x v n → Reads x true r → Told x v ds r → Led (weigh (x ∷ behind o x)) (x ∷ behind o x) (judge o v x r) (see (o .method) x r v) (name x r n) (ds ++ discsIn r)
+  led-off x v n ds r s w t = subst (λ (j : Judgement). Led (weigh (x ∷ behind o x)) (x ∷ behind o x) j (see (o .method) x r v) (name x r n) (ds ++ discsIn r)) (sym (t .passes)) (go (isPolled (o .immed) x) refl)
     where
-      go : (b : Bool) → isPolled (o .immed) x ≡ b → Led (x ∷ behind o x) (pollsIf b) (see (o .method) x r v) (name x r n)
+      go : (b : Bool) → isPolled (o .immed) x ≡ b → Led (weigh (x ∷ behind o x)) (x ∷ behind o x) (pollsIf b) (see (o .method) x r v) (name x r n) (ds ++ discsIn r)
       go true q =
-          let c : isClosing x ≡ true = both (isClosing x) _ q .0 in
+          let c : takesImmed x ≡ true = both (takesImmed x) _ q .0 in
           let g : weight x ≡ 3 = if-yes _ _ q in
           record {
             unrefusing = refl;
-            stage = at-op x Ready refl (record { standing = standing-closing (o .method) o x v _ n _ s c; polled-at = q }) (t .closes-known c) (t .room);
-            lighter = omega arith;
+            stage =
+                fewer _ (weigh (TestUnitReady ∷ RequestSense ∷ behind o x)) _ _ _ _ (omega arith)
+                (at-op x Ready refl (record { standing = standing-closing (o .method) o x v _ n _ s c (immed-kept (o .method) x r v c w); polled-at = q }) refl (t .knows) (t .room) refl);
           }
       go false q =
           let g : weight x ≡ 1 = if-no _ _ q in
           record {
             unrefusing = refl;
-            stage = behind-stage x v _ n _ s (stood o x r v n z s w (ap refusedBy (t .passes))) (t .knows) (t .ends-known) (t .room);
-            lighter = omega arith;
+            stage = fewer _ (weigh (behind o x)) _ _ _ _ (omega arith) (behind-stage x v _ n _ _ s (stood o x r v n z (λ i e. ok) s w (ap refusedBy (t .passes))) (t .knows) (t .room));
           }
 
   -- so is 00h
-  led-ready : (x : Op) (v : Seen) (n : Named) → Standing (o .method) o x v n → isPolled (o .immed) x ≡ true → Both v → RoomBy (o .method) o (v .at) (behind o x) → Led (planAt o x Ready) (judge o v TestUnitReady Unread) (see (o .method) TestUnitReady Unread v) n
-  led-ready x v n s c b r =
+  led-ready : (x : Op) (v : Seen) (n : Named) (ds : Discs) → Standing (o .method) o x v n → isPolled (o .immed) x ≡ true → Known v ds → RoomBy (o .method) o (v .at) (behind o x) → Led (weigh (planAt o x Ready)) (planAt o x Ready) (judge o v TestUnitReady Unread) (see (o .method) TestUnitReady Unread v) n (ds ++ [])
+  led-ready x v n ds s c b r =
       record {
         unrefusing = refl;
-        stage = at-op x Sense refl (record { standing = standing-closing (o .method) o x v _ n n s (both (isClosing x) _ c .0); polled-at = c }) (b, refl) r;
-        lighter = omega arith;
+        stage =
+            fewer _ (weigh (planAt o x Sense)) _ _ _ _ (omega arith)
+            (at-op x Sense refl (record { standing = standing-closing (o .method) o x v _ n n s (both (takesImmed x) _ c .0) refl; polled-at = c }) refl (still-known v _ ds refl refl refl b, refl) r refl);
       }
 
   -- and 03h
-  led-sense : (x : Op) (v : Seen) (n : Named) → Standing (o .method) o x v n → isPolled (o .immed) x ≡ true → Both v → v .ready ≡ true → RoomBy (o .method) o (v .at) (behind o x) → Led (planAt o x Sense) (judge o v RequestSense (ProgressIndication 0)) (see (o .method) RequestSense (ProgressIndication 0) v) n
-  led-sense x v n s c b f r = subst (λ (j : Judgement). Led (planAt o x Sense) j (see (o .method) RequestSense (ProgressIndication 0) v) n) (sym last) (ended)
+  led-sense : (x : Op) (v : Seen) (n : Named) (ds : Discs) → Standing (o .method) o x v n → isPolled (o .immed) x ≡ true → Known v ds → v .ready ≡ true → RoomBy (o .method) o (v .at) (behind o x) → Led (weigh (planAt o x Sense)) (planAt o x Sense) (judge o v RequestSense (ProgressIndication 0)) (see (o .method) RequestSense (ProgressIndication 0) v) n (ds ++ [])
+  led-sense x v n ds s c b f r = subst (λ (j : Judgement). Led (weigh (planAt o x Sense)) (planAt o x Sense) j (see (o .method) RequestSense (ProgressIndication 0) v) n (ds ++ [])) (sym last) ended
     where
       last : judge o v RequestSense (ProgressIndication 0) ≡ onward []
       last = ap (λ (y : Bool). pollsIf (not (y && eqb 0 0))) f
 
-      ended : Led (planAt o x Sense) (onward []) (see (o .method) RequestSense (ProgressIndication 0) v) n
+      ended : Led (weigh (planAt o x Sense)) (planAt o x Sense) (onward []) (see (o .method) RequestSense (ProgressIndication 0) v) n (ds ++ [])
       ended =
           record {
             unrefusing = refl;
-            stage = behind-stage x v _ n n s (stood-polled o x v _ n n s (both (isClosing x) _ c .0)) (λ l y e. all-known y _ b) (λ e. b) r;
-            lighter = omega arith;
+            stage = fewer _ (weigh (behind o x)) _ _ _ _ (omega arith) (behind-stage x v _ n n _ s (stood-polled o x v _ n n s (both (takesImmed x) _ c .0) refl) (still-known v _ ds refl refl refl b) r);
           }
 
   no-progress : (v : Seen) → reading RequestSense (replyTo RequestSense v) ≡ ProgressIndication 0
   unfolding readProgress progressOf
   no-progress v = refl
 
-  led : (x : Op) (p : Poll) (v : Seen) (n : Named) → Stood o x p v n → KnownAt p x v → RoomAt p x (v .at) → Led (planAt o x p) (judge o v (dueAt x p) (reading (dueAt x p) (replyTo (dueAt x p) v))) (see (o .method) (dueAt x p) (reading (dueAt x p) (replyTo (dueAt x p) v)) v) (name (dueAt x p) (reading (dueAt x p) (replyTo (dueAt x p) v)) n)
-  led x Off v n s k r = led-off x v n (reading x (replyTo x v)) (s .standing) (reads x (replyTo x v)) (told-next x v n (s .standing) k r)
-  led x Ready v n s k r = led-ready x v n (s .standing) (s .polled-at) k r
-  led x Sense v n s k r =
-      subst (λ (a : Reading). Led (planAt o x Sense) (judge o v RequestSense a) (see (o .method) RequestSense a v) (name RequestSense a n)) (sym (no-progress v)) (led-sense x v n (s .standing) (s .polled-at) (k .0) (k .1) r)
+  -- what the reply to an operation that is due leads to, with c replies to come
+  abbrev LedBy : ℕ → Op → Poll → Seen → Named → Discs → Reading → Type 0
+  LedBy c x p v n ds r = Led c (planAt o x p) (judge o v (dueAt x p) r) (see (o .method) (dueAt x p) r v) (name (dueAt x p) r n) (ds ++ discsIn r)
 
-  record Turned (es ds : List Exchange) : Type 0 where
-    packed : Packed ds
-    lighter : weigh (left o ds) ≡ weigh (left o es) - 1
+  abbrev readingTo : Op → Seen → Reading
+  readingTo x v = reading x (replyTo x v)
 
-  packed-turn : (es : List Exchange) → Packed es → Turned es (exchanged (ruled (pass o) es) (reply es) es)
-  packed-turn es i = go (i .stage)
+  led : (x : Op) (p : Poll) (v : Seen) (n : Named) (ds : Discs) → Stood o x p v n → isErasing (dueAt x p) ≡ false → KnownAt p v ds → RoomAt p x (v .at) → LedBy (weigh (planAt o x p)) x p v n ds (readingTo (dueAt x p) v)
+  led x Off v n ds s i k r = led-off x v n ds (readingTo x v) (s .standing) (reads x (replyTo x v)) (told-next x v ds n (s .standing) i k r)
+  led x Ready v n ds s i k r = led-ready x v n ds (s .standing) (s .polled-at) k r
+  led x Sense v n ds s i k r = subst (LedBy (weigh (planAt o x Sense)) x Sense v n ds) (sym (no-progress v)) (led-sense x v n ds (s .standing) (s .polled-at) (k .0) (k .1) r)
+
+  -- 46h, and the first 51h
+  led-first : (c : ℕ) (v : Seen) (n : Named) (ds : Discs) → Standing (o .method) o GetConfiguration v n → v .erased ≡ false → ds ≡ [] → RoomAt Off GetConfiguration (v .at) → c ≡ weigh (planAt o GetConfiguration Off) + wiping → LedBy c GetConfiguration Off v n ds (readingTo GetConfiguration v)
+  led-first c v n ds s e i r q =
+      subst (LedBy c GetConfiguration Off v n ds) (sym (named-profile p (second v) (v .at .0 - leadFrames) all))
+      (record {
+        unrefusing = refl;
+        stage = at-disc refl s refl e (ap (λ (l : Discs). l ++ []) i) (same-room (o .method) (v .at) GetConfiguration _ refl r) (omega arith);
+      })
+
+  led-disc : (c : ℕ) (v : Seen) (n : Named) (ds : Discs) → Standing (o .method) o ReadDiscInformation v n → v .profile ≡ p → v .erased ≡ false → ds ≡ [] → RoomAt Off ReadDiscInformation (v .at) → c ≡ weigh (planAt o ReadDiscInformation Off) + wiping → LedBy c ReadDiscInformation Off v n ds (readingTo ReadDiscInformation v)
+  led-disc c v n ds s a e i r q =
+      subst (LedBy c ReadDiscInformation Off v n ds) (sym (reads-51 v ∙ ap (λ (b : Bool). Disc (discFor b)) e))
+      (subst (λ (j : Judgement). Led c (planAt o ReadDiscInformation Off) j (see (o .method) ReadDiscInformation (Disc d) v) n (ds ++ (d ∷ []))) (sym (passes-51 v a false e)) (go wipes refl))
+    where
+      w : Seen
+      w = see (o .method) ReadDiscInformation (Disc d) v
+
+      told : ds ++ (d ∷ []) ≡ d ∷ []
+      told = ap (λ (l : Discs). l ++ (d ∷ [])) i
+
+      room : RoomBy (o .method) o (v .at) (behind o ReadDiscInformation)
+      room = same-room (o .method) (v .at) ReadDiscInformation _ refl r
+
+      go : (b : Bool) → wipes ≡ b → Led c (planAt o ReadDiscInformation Off) (onward (erasingIf b)) w n (ds ++ (d ∷ []))
+      go true f =
+          let g : wiping ≡ weight Blank + 1 = if-yes _ _ f in
+          record { unrefusing = refl; stage = fewer c _ _ _ _ _ (omega arith) (at-erasing refl (both (o .erase) _ f .0, s) a f told (erasing-room (o .method) (v .at) _ r) refl) }
+      go false f =
+          let g : wiping ≡ 0 = if-no _ _ f in
+          record {
+            unrefusing = refl;
+            stage =
+                fewer c (weigh (behind o ReadDiscInformation)) _ _ _ _ (omega arith)
+                (behind-stage ReadDiscInformation v w n n _ s (stood o ReadDiscInformation (Disc d) v n z (λ i e. ok) s status (ap refusedBy (passes-51 v a false e)))
+                (record { profile-known = a; status-known = λ h. refl; erased-known = e ∙ sym f; discs-known = ([], told) }) room);
+          }
+
+  -- A1h
+  led-erasing : (v : Seen) (n : Named) (ds : Discs) → Standing (o .method) o Blank v n → v .profile ≡ p → wipes ≡ true → ds ≡ d ∷ [] → RoomAt Off Blank (v .at) → LedBy (weigh (planAt o Blank Off)) Blank Off v n ds Unread
+  led-erasing v n ds s a f i r =
+      led-off Blank v n ds Unread s (unread refl refl)
+      (record {
+        passes = refl;
+        knows =
+            record {
+              profile-known = a;
+              status-known = λ h. absurd (false-true (sym h ∙ both (o .erase) _ f .0));
+              erased-known = sym f;
+              discs-known = more-discs ds [] ([], i);
+            };
+        room = unread-room (o .method) Blank v n s r refl;
+      })
+
+  packed-turn : (c : ℕ) (es : List Exchange) → Packed c es → Packed (c - 1) (exchanged (ruled (pass o) es) (reply es) es)
+  packed-turn c es i = go (i .stage)
     where
       v : Seen
       v = seen (o .method) es
 
       -- the reply to an operation that is due
       next : Op → List Exchange
-      next d = made o es d (replyTo d v) ∷ es
+      next x = made o es x (replyTo x v) ∷ es
 
-      answered : (x : Op) (p : Poll) → left o es ≡ planAt o x p → Led (planAt o x p) (judged o es (made o es (dueAt x p) (replyTo (dueAt x p) v))) (seen (o .method) (next (dueAt x p))) (named (next (dueAt x p))) → Turned es (next (dueAt x p))
+      answered : (x : Op) (p : Poll) → left o es ≡ planAt o x p → LedBy c x p v (named es) (discs es) (readingTo (dueAt x p) v) → Packed (c - 1) (exchanged (ruled (pass o) es) (reply es) es)
       answered x p e t =
-          let f : left o (next (dueAt x p)) ≡ move (judged o es (made o es (dueAt x p) (replyTo (dueAt x p) v))) (planAt o x p) = ap (move (judged o es (made o es (dueAt x p) (replyTo (dueAt x p) v)))) e in
-          let a = t .lighter in
-          let b = ap weigh f in
-          let c = ap weigh e in
-          record {
-            packed =
-                record {
-                  unrefused = refused-next o es (made o es (dueAt x p) (replyTo (dueAt x p) v)) none (i .unrefused) (t .unrefusing);
-                  stage = subst (λ (l : List Op). Stage l (seen (o .method) (next (dueAt x p))) (named (next (dueAt x p)))) (sym f) (t .stage);
-                };
-            lighter = omega arith;
-          }
+          subst (λ (a : Ruling). Packed (c - 1) (exchanged a (reply es) es)) (sym (ruled-at o es (planAt o x p) (i .unrefused) e))
+          (subst (λ (l : List Op). Packed (c - 1) (made o es (dueAt x p) (replyFor l v) ∷ es)) (sym e)
+          (record {
+            unrefused = refused-next o es (made o es (dueAt x p) (replyTo (dueAt x p) v)) none (i .unrefused) (t .unrefusing);
+            stage =
+                subst (λ (l : List Op). Stage (c - 1) (move (judged o es (made o es (dueAt x p) (replyTo (dueAt x p) v))) l) (seen (o .method) (next (dueAt x p))) (named (next (dueAt x p))) (discs (next (dueAt x p)))) (sym e)
+                (t .stage);
+          }))
 
-      go : Stage (left o es) v (named es) → Turned es (exchanged (ruled (pass o) es) (reply es) es)
-      go (at-op x p e s k r) =
-          subst (λ (a : Ruling). Turned es (exchanged a (reply es) es)) (sym (ruled-at o es (planAt o x p) (i .unrefused) e))
-          (subst (λ (l : List Op). Turned es (made o es (dueAt x p) (replyFor l v) ∷ es)) (sym e) (answered x p e (led x p v (named es) s k r)))
-      go (over e b) =
-          let c = ap weigh e in
-          subst (λ (a : Ruling). Turned es (exchanged a (reply es) es)) (sym (ruled-at o es [] (i .unrefused) e)) (record { packed = i; lighter = omega arith })
+      to-come : (x : Op) (p : Poll) → left o es ≡ planAt o x p → c ≡ weigh (left o es) → weigh (planAt o x p) ≡ c
+      to-come x p e q = sym (ap weigh e) ∙ sym q
+
+      go : Stage c (left o es) v (named es) (discs es) → Packed (c - 1) (exchanged (ruled (pass o) es) (reply es) es)
+      go (at-first e s f j r q) = answered GetConfiguration Off e (led-first c v (named es) (discs es) s f j r (q ∙ ap (λ (l : List Op). weigh l + wiping) e))
+      go (at-disc e s a f j r q) = answered ReadDiscInformation Off e (led-disc c v (named es) (discs es) s a f j r (q ∙ ap (λ (l : List Op). weigh l + wiping) e))
+      go (at-erasing e s a f j r q) = answered Blank Off e (subst (λ (k : ℕ). LedBy k Blank Off v (named es) (discs es) Unread) (to-come Blank Off e q) (led-erasing v (named es) (discs es) s a f j r))
+      go (at-op x p e s n k r q) = answered x p e (subst (λ (k : ℕ). LedBy k x p v (named es) (discs es) (readingTo (dueAt x p) v)) (to-come x p e q) (led x p v (named es) (discs es) s n k r))
+      go (over e b q) =
+          let k : c ≡ c - 1 = omega arith in
+          subst (λ (a : Ruling). Packed (c - 1) (exchanged a (reply es) es)) (sym (ruled-at o es [] (i .unrefused) e)) (subst (λ (m : ℕ). Packed m es) k i)
 
   -- ---- the replies, each after the rules' exchanges for those before it
 
@@ -519,11 +732,13 @@ module _ (o : Order) (z : Sized o) (ok : Recordable o) (p q : ℕ) (su : Suitabl
   reply-good [] v = refl
   reply-good (x ∷ l) v = refl
 
+  abbrev total : ℕ
+  total = weigh (script o) + wiping
+
   record Fine (k : ℕ) : Type 0 where
     all-bytes : AllBytes (replies k)
     marked : AllMarkedGood (replies k)
-    packed : Packed (play (pass o) [] (replies k))
-    lighter : weigh (left o (play (pass o) [] (replies k))) ≡ weigh (script o) - k
+    packed : Packed (total - k) (play (pass o) [] (replies k))
 
   first-room : (m : Method) → RoomBy m o (record { 0 = 0 }) (script (by o m))
   first-room Tao = let e = tracks-ahead (by o Tao) 0 in omega arith
@@ -531,49 +746,56 @@ module _ (o : Order) (z : Sized o) (ok : Recordable o) (p q : ℕ) (su : Suitabl
 
   fine : (k : ℕ) → Fine k
   fine zero =
+      let e : total ≡ total - 0 = omega arith in
       record {
         all-bytes = tt;
         marked = tt;
-        packed = record { unrefused = refl; stage = at-op GetConfiguration Off refl (record { standing = refl; polled-at = tt }) tt (first-room (o .method)) };
-        lighter = omega arith;
+        packed = subst (λ (c : ℕ). Packed c []) e (record { unrefused = refl; stage = at-first refl refl refl refl (first-room (o .method)) refl });
       }
   fine (suc k) = more (fine k)
     where
       more : Fine k → Fine (suc k)
       more i =
           let es : List Exchange = play (pass o) [] (replies k) in
-          let t = packed-turn es (i .packed) in
-          let a = t .lighter in
-          let b = i .lighter in
-          let c : weigh (left o (play (pass o) [] (replies (suc k)))) ≡ weigh (left o (exchanged (ruled (pass o) es) (reply es) es)) = ap (λ (l : List Exchange). weigh (left o l)) (play-snoc (replies k) [] (reply es)) in
+          let e : total - k - 1 ≡ total - suc k = omega arith in
           record {
             all-bytes = bytes-snoc (replies k) (reply es) (i .all-bytes) (reply-bytes (left o es) (seen (o .method) es));
             marked = marked-snoc (replies k) (reply es) (i .marked) (reply-good (left o es) (seen (o .method) es));
-            packed = subst Packed (sym (play-snoc (replies k) [] (reply es))) (t .packed);
-            lighter = omega arith;
+            packed = subst (λ (c : ℕ). Packed c (play (pass o) [] (replies (suc k)))) e (subst (Packed (total - k - 1)) (sym (play-snoc (replies k) [] (reply es))) (packed-turn (total - k) es (i .packed)));
           }
 
-  -- after them the job is done, so profile and status are known
-  at-last : (l : List Op) (v : Seen) (n : Named) → l ≡ [] → Stage l v n → Both v
-  at-last l v n e (at-op x p f s k r) = clash (cc)
-  at-last l v n e (over f b) = b
-
-  none-left : (l : List Op) → weigh l ≡ 0 → l ≡ []
-  none-left [] e = refl
-  none-left (x ∷ l) e = absurd (go (isPolled (o .immed) x) e)
+  -- after them the job is done, so all is known
+  some-weigh : (x : Op) (l : List Op) → 1 ≤ weigh (x ∷ l)
+  some-weigh x l = go (isPolled (o .immed) x)
     where
-      go : (b : Bool) → if b 3 1 + weigh l ≡ 0 → ⊥
-      go true e = omega arith
-      go false e = omega arith
+      go : (b : Bool) → 1 ≤ if b 3 1 + weigh l
+      go true = omega arith
+      go false = omega arith
 
-  pub can-pass : (rs : List Reply) × Passing o p q rs
+  not-yet : (c b : ℕ) (x : Op) (l m : List Op) → m ≡ x ∷ l → c ≡ 0 → c ≡ weigh m + b → ⊥
+  not-yet c b x l m e n q = let w = some-weigh x l in let a = ap weigh e in omega arith
+
+  at-last : (c : ℕ) (l : List Op) (v : Seen) (n : Named) (ds : Discs) → c ≡ 0 → Stage c l v n ds → (l ≡ []) × Known v ds
+  at-last c l v n ds e (at-first f s g j r q) = absurd (not-yet c wiping _ _ l f e q)
+  at-last c l v n ds e (at-disc f s a g j r q) = absurd (not-yet c wiping _ _ l f e q)
+  at-last c l v n ds e (at-erasing f s a g j r q) = absurd (not-yet c 0 _ _ l f e (omega arith))
+  at-last c l v n ds e (at-op x p f s j k r q) = absurd (not-yet c 0 _ _ l f e (omega arith))
+  at-last c l v n ds e (over f b q) = (f, b)
+
+  pub can-pass : (rs : List Reply) × Passing o p d rs
   can-pass =
-      let k : ℕ = weigh (script o) in
-      let i = fine k in
-      let es : List Exchange = play (pass o) [] (replies k) in
-      let w = i .lighter in
-      let e : left o es ≡ [] = none-left (left o es) (omega arith) in
-      let b = at-last (left o es) (seen (o .method) es) (named es) e (i .packed .stage) in (
-        replies k,
-        record { all-bytes = i .all-bytes; marked = i .marked; unrefused = i .packed .unrefused; enough = ruled-at o es [] (i .packed .unrefused) e; of-profile = b .0; of-status = b .1 },
+      let i = fine total in
+      let es : List Exchange = play (pass o) [] (replies total) in
+      let n : total - total ≡ 0 = omega arith in
+      let b = at-last (total - total) (left o es) (seen (o .method) es) (named es) (discs es) n (i .packed .stage) in (
+        replies total,
+        record {
+          all-bytes = i .all-bytes;
+          marked = i .marked;
+          unrefused = i .packed .unrefused;
+          enough = ruled-at o es [] (i .packed .unrefused) (b .0);
+          of-profile = sym (profile-seen (o .method) es) ∙ b .1 .profile-known;
+          of-disc = b .1 .discs-known;
+          erases-so = sym (erased-seen (o .method) es) ∙ b .1 .erased-known;
+        },
       )
