@@ -6,13 +6,13 @@ use Rattle.mmc.specs.Times.{inRange, framesTo, addressAt}
 use Rattle.mmc.specs.Commands.{writeRange, writeBytes, writeCommand, sendCueSheet, closeTrackSession}
 use Rattle.mmc.specs.Sheet.{sheetSize}
 use Rattle.mmc.proofs.Bench as Layouts
-use Rattle.recorder.specs.Replies.{hasSense, senseOf, longWrite, isBusy, readFailed, notReady, isUnready, readUnready, progressOf, readProgress, wholeProfile, readProfile, wholeDisc, readStatus, wholeInformation, informationOf, readInformation}
-use Rattle.recorder.specs.Rules.{otherProfile, unsuitable, unusable, mixedOrKept, fits}
+use Rattle.recorder.specs.Replies.{hasSense, senseOf, longWrite, isBusy, readFailed, notReady, isUnready, readUnready, progressOf, readProgress, wholeProfile, readProfile, wholeDisc, discOf, readDisc, wholeInformation, informationOf, readInformation}
+use Rattle.recorder.specs.Rules.{otherProfile, unsuitable, unusable, mixedOrKept, fits, overlong, used, notErasable}
 use Rattle.recorder.specs.Job.{inOrder, inTime, inPiece, isWrite, standsIn}
-use Rattle.recorder.specs.Bench.{PollSheets, BenchSheets}
+use Rattle.recorder.specs.Bench.{PollSheets, EraseSheets, BenchSheets}
 
 poll-sheets : PollSheets
-unfolding sheetSize sendCueSheet closeTrackSession framesTo bytes32 be32 allKind allLong blocksOf inRange addressAt writeRange writeBytes writeCommand hasSense senseOf longWrite isBusy readFailed notReady isUnready readUnready progressOf readProgress wholeProfile readProfile wholeDisc readStatus wholeInformation informationOf readInformation otherProfile unsuitable unusable mixedOrKept fits inOrder inTime inPiece isWrite standsIn
+unfolding sheetSize sendCueSheet closeTrackSession framesTo bytes32 be32 allKind allLong blocksOf inRange addressAt writeRange writeBytes writeCommand hasSense senseOf longWrite isBusy readFailed notReady isUnready readUnready progressOf readProgress wholeProfile readProfile wholeDisc discOf readDisc wholeInformation informationOf readInformation otherProfile unsuitable unusable mixedOrKept fits inOrder inTime inPiece isWrite standsIn
 poll-sheets =
     record {
       each-track = refl;
@@ -32,8 +32,28 @@ poll-sheets =
       forged = refl;
     }
 
+erase-sheets : EraseSheets
+unfolding sheetSize sendCueSheet closeTrackSession framesTo bytes32 be32 allKind allLong blocksOf inRange addressAt writeRange writeBytes writeCommand hasSense senseOf longWrite isBusy readFailed notReady isUnready readUnready progressOf readProgress wholeProfile readProfile wholeDisc discOf readDisc wholeInformation informationOf readInformation otherProfile unsuitable unusable mixedOrKept fits inOrder inTime inPiece isWrite standsIn overlong used notErasable
+erase-sheets =
+    record {
+      commands = refl;
+      used = refl;
+      blank = refl;
+      unflagged = refl;
+      not-erasable = refl;
+      in-turn = refl;
+      on-blank = refl;
+      alone = refl;
+      again = refl;
+      at-52 = refl;
+      erase-fails = refl;
+      polled = refl;
+      counts = refl;
+      forged = refl;
+    }
+
 pub bench-sheets : BenchSheets
-unfolding sheetSize sendCueSheet closeTrackSession framesTo bytes32 be32 allKind allLong blocksOf inRange addressAt writeRange writeBytes writeCommand hasSense senseOf longWrite isBusy readFailed wholeProfile readProfile wholeDisc readStatus wholeInformation informationOf readInformation otherProfile unsuitable unusable mixedOrKept fits inOrder inTime inPiece isWrite standsIn
+unfolding sheetSize sendCueSheet closeTrackSession framesTo bytes32 be32 allKind allLong blocksOf inRange addressAt writeRange writeBytes writeCommand hasSense senseOf longWrite isBusy readFailed wholeProfile readProfile wholeDisc discOf readDisc wholeInformation informationOf readInformation otherProfile unsuitable unusable mixedOrKept fits inOrder inTime inPiece isWrite standsIn
 bench-sheets =
     record {
       layouts = Layouts.bench-sheets;
@@ -51,6 +71,7 @@ bench-sheets =
       write = refl;
       commands = refl;
       polling = poll-sheets;
+      erasing = erase-sheets;
       finalized = refl;
       appendable = refl;
       other-profile = refl;

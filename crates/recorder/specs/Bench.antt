@@ -216,6 +216,158 @@ pub record PollSheets : Type 0 where
       ∷ []
       ≡ replicate 6 false ++ (true ∷ [])
 
+-- ---- document 02: with flag bit 3
+
+abbrev pub flagged : Order → Order
+flagged o = record { method = o .method; keep = o .keep; protect = o .protect; immed = o .immed; erase = true; count = o .count; tracks = o .tracks }
+
+-- the exchanges of an order and these replies, their first refusal, and the bytes that are given then
+abbrev pub played : Order → List Reply → List Exchange
+played o ys = play (pass o) [] ys
+
+abbrev pub refusedIn : Order → List Reply → ℕ
+refusedIn o ys = numberIn (refusal (pass o) (played o ys))
+
+abbrev pub givenIn : Order → List Reply → List ℕ
+givenIn o ys = bytesOf (o .immed) (o .count) (ruled (pass o) (played o ys))
+
+-- the same of tracks of these lengths with the flag
+abbrev pub wiping : Method → List ℕ → List Reply → ℕ
+wiping m ls ys = refusedIn (flagged (order m ls)) ys
+
+-- a CD-RW, and a CD-R, with byte 2 of 51h, whose bit 4 is Erasable; both say so to 46h, and to 52h that 300 blocks are free from 0 on
+abbrev pub rw : ℕ → Reply
+rw two = saying two 0 0x0A 0 300
+
+abbrev pub cd-r : ℕ → Reply
+cd-r two = plain two 0 300
+
+abbrev pub twice : Reply → List Reply
+twice y = y ∷ y ∷ []
+
+-- the first byte of what a track at once of 300 blocks with the flag is given next
+abbrev pub dueIn : List Reply → ℕ
+dueIn ys = getD (givenIn (flagged (order Tao (300 ∷ []))) ys) 0 0xFF
+
+-- the same with flag bit 2 too, from the good A1h on
+abbrev pub duePolled : List Reply → ℕ
+duePolled ys = getD (givenIn (immediate (flagged (order Tao (300 ∷ [])))) (rw 0x12 ∷ rw 0x12 ∷ good ∷ ys)) 0 0xFF
+
+-- the first refusal after a second 51h, and after the 52h behind it
+abbrev pub anew : Method → Reply → ℕ
+anew m y = wiping m (300 ∷ []) (rw 0x12 ∷ rw 0x12 ∷ good ∷ y ∷ [])
+
+abbrev pub renewed : Reply → ℕ
+renewed y = wiping Tao (300 ∷ []) (rw 0x12 ∷ rw 0x12 ∷ good ∷ rw 0x10 ∷ y ∷ [])
+
+pub record EraseSheets : Type 0 where
+  -- A1h after the first 51h, 01h in byte 1, and 11h with flag bit 2; then 51h, and 52h
+  pub commands :
+      givenIn (flagged (order Tao (300 ∷ []))) (twice (rw 0x12))
+      ∷ givenIn (flagged (order Sao (300 ∷ []))) (twice (rw 0x11))
+      ∷ givenIn (immediate (flagged (order Tao (300 ∷ [])))) (twice (rw 0x12))
+      ∷ givenIn (flagged (order Tao (300 ∷ []))) (rw 0x12 ∷ rw 0x12 ∷ good ∷ [])
+      ∷ givenIn (flagged (order Tao (300 ∷ []))) (rw 0x12 ∷ rw 0x12 ∷ good ∷ rw 0x10 ∷ [])
+      ∷ []
+      ≡ (0xA1 ∷ 0x01 ∷ replicate 10 0)
+      ∷ (0xA1 ∷ 0x01 ∷ replicate 10 0)
+      ∷ (0xA1 ∷ 0x11 ∷ replicate 10 0)
+      ∷ (0x51 ∷ 0 ∷ 0 ∷ 0 ∷ 0 ∷ 0 ∷ 0 ∷ 0 ∷ 34 ∷ 0 ∷ [])
+      ∷ (0x52 ∷ 0x01 ∷ 0 ∷ 0 ∷ 0 ∷ 0xFF ∷ 0 ∷ 0 ∷ 48 ∷ 0 ∷ [])
+      ∷ []
+  -- status 1 and 2 are erased, in TAO an appendable disc too, "though it could take the job"; a blank disc is not, "whatever its profile and
+  -- Erasable"; nor is any without the flag
+  pub used : dueIn (twice (rw 0x11)) ∷ dueIn (twice (rw 0x12)) ∷ [] ≡ 0xA1 ∷ 0xA1 ∷ []
+  pub blank : dueIn (twice (rw 0x10)) ∷ dueIn (twice (rw 0x00)) ∷ dueIn (twice (cd-r 0x10)) ∷ dueIn (twice (cd-r 0x00)) ∷ [] ≡ replicate 4 0x52
+  pub unflagged : take 1 (givenIn (order Tao (300 ∷ [])) (twice (rw 0x11))) ∷ take 1 (givenIn (order Sao (300 ∷ [])) (twice (rw 0x12))) ∷ [] ≡ (0x52 ∷ []) ∷ (0x52 ∷ []) ∷ []
+  -- 16: a CD-R, and a CD-RW whose bit 4 is clear, whatever the bits beside it
+  pub not-erasable :
+      wiping Tao (300 ∷ []) (twice (cd-r 0x11))
+      ∷ wiping Tao (300 ∷ []) (twice (cd-r 0x12))
+      ∷ wiping Sao (300 ∷ []) (twice (cd-r 0x1E))
+      ∷ wiping Tao (300 ∷ []) (twice (rw 0x01))
+      ∷ wiping Sao (300 ∷ []) (twice (rw 0x0E))
+      ∷ wiping Sao (300 ∷ []) (twice (rw 0x1E))
+      ∷ []
+      ≡ replicate 5 16 ++ (0 ∷ [])
+  -- "4, 5, 6 for status 3, 8, 9, 10 for S alone, 16": each before those behind it, and status 2 and a blank disc judged too
+  pub in-turn :
+      wiping Sao (299 ∷ []) (saying 0x33 0 0x0B 0 0 ∷ saying 0x33 0 0x0B 0 0 ∷ [])
+      ∷ refusedIn (flagged (orderOf Sao true (audio (299 ∷ [])))) (twice (saying 0x13 0 0x0B 0 0))
+      ∷ refusedIn (flagged (orderOf Sao true (audio (299 ∷ [])))) (twice (cd-r 0x13))
+      ∷ refusedIn (flagged (orderOf Sao true (audio (299 ∷ [])))) (twice (cd-r 0x12))
+      ∷ refusedIn (flagged (orderOf Sao false (track Audio 300 ∷ track Data 299 ∷ []))) (twice (rw 0x10))
+      ∷ wiping Tao (449850 ∷ 299 ∷ []) (twice (cd-r 0x12))
+      ∷ wiping Tao (449850 ∷ []) (twice (cd-r 0x12))
+      ∷ wiping Sao (449849 ∷ []) (twice (cd-r 0x12))
+      ∷ []
+      ≡ 4 ∷ 5 ∷ 6 ∷ 8 ∷ 8 ∷ 9 ∷ 10 ∷ 16 ∷ []
+  -- 5, 6, 9 and 10 on a blank disc
+  pub on-blank :
+      wiping Tao (300 ∷ []) (twice (saying 0x10 0 0x0B 0 300))
+      ∷ wiping Tao (300 ∷ []) (twice (rw 0x13))
+      ∷ wiping Tao (299 ∷ []) (twice (rw 0x10))
+      ∷ wiping Tao (449850 ∷ []) (twice (rw 0x00))
+      ∷ []
+      ≡ 5 ∷ 6 ∷ 9 ∷ 10 ∷ []
+  -- S alone counts there, in TAO and SAO, and neither Free Blocks nor an address
+  pub alone :
+      wiping Tao (449849 ∷ []) (twice (saying 0x12 0x20 0x0A 0xFFFFFFFF 0))
+      ∷ wiping Sao (449849 ∷ []) (twice (saying 0x12 0x20 0x0A 0xFFFFFFFF 0))
+      ∷ wiping Sao (449850 ∷ []) (twice (rw 0x12))
+      ∷ wiping Tao (300 ∷ 449549 ∷ []) (twice (rw 0x12))
+      ∷ wiping Tao (300 ∷ 449550 ∷ []) (twice (rw 0x12))
+      ∷ []
+      ≡ 0 ∷ 0 ∷ 10 ∷ 0 ∷ 10 ∷ []
+  -- the second 51h: 4, and 6 for all but blank, in TAO too; "Erasable isn't judged again"
+  pub again : anew Tao (rw 0x11) ∷ anew Tao (rw 0x12) ∷ anew Tao (rw 0x13) ∷ anew Sao (rw 0x11) ∷ anew Tao (rw 0x20) ∷ anew Tao (cut 33 (rw 0x10)) ∷ anew Tao (rw 0x00) ∷ anew Sao (rw 0x10) ∷ [] ≡ 6 ∷ 6 ∷ 6 ∷ 6 ∷ 4 ∷ 4 ∷ 0 ∷ 0 ∷ []
+  -- the 52h of such a job: 4, 7, 10, also without an erasing
+  pub at-52 :
+      renewed (cut 27 (cd-r 0x10))
+      ∷ renewed (saying 0x10 0x20 9 0 300)
+      ∷ renewed (rw 0x10)
+      ∷ renewed (plain 0x10 0 299)
+      ∷ renewed (plain 0x10 449550 300)
+      ∷ renewed (plain 0x10 449549 300)
+      ∷ wiping Tao (300 ∷ []) (rw 0x10 ∷ rw 0x10 ∷ saying 0x10 0x20 9 0 300 ∷ [])
+      ∷ wiping Tao (300 ∷ []) (rw 0x10 ∷ rw 0x10 ∷ plain 0x10 0 299 ∷ [])
+      ∷ []
+      ≡ 4 ∷ 7 ∷ 7 ∷ 10 ∷ 10 ∷ 0 ∷ 7 ∷ 10 ∷ []
+  -- A1h: busy, the same again; failed, 12, not ready too
+  pub erase-fails :
+      dueIn (rw 0x12 ∷ rw 0x12 ∷ unready 0x70 0x08 ∷ [])
+      ∷ wiping Tao (300 ∷ []) (rw 0x12 ∷ rw 0x12 ∷ unready 0x70 0x07 ∷ [])
+      ∷ wiping Tao (300 ∷ []) (rw 0x12 ∷ rw 0x12 ∷ failed 14 0x70 0x05 0x20 0x00 ∷ [])
+      ∷ []
+      ≡ 0xA1 ∷ 12 ∷ 12 ∷ []
+  -- with flag bit 2 polled until ready and no progress, and 51h after that
+  pub polled :
+      duePolled []
+      ∷ duePolled (good ∷ [])
+      ∷ duePolled (good ∷ sense 18 0x80 0x40 0 ∷ [])
+      ∷ duePolled (unready 0x70 0x04 ∷ sense 18 0 0 0 ∷ [])
+      ∷ duePolled (good ∷ sense 18 0 0 0 ∷ [])
+      ∷ duePolled (good ∷ sense 18 0 0 0 ∷ rw 0x10 ∷ [])
+      ∷ []
+      ≡ 0x00 ∷ 0x03 ∷ 0x00 ∷ 0x00 ∷ 0x51 ∷ 0x52 ∷ []
+  -- "The exact count grows by 2": 28 for 26 in TAO, 37 for 35 in SAO; not on a blank disc
+  pub counts :
+      length (played (flagged (order Tao (300 ∷ []))) (rw 0x12 ∷ rw 0x12 ∷ replicate 60 (plain 0x10 0 300)))
+      ∷ length (played (flagged (order Sao (300 ∷ []))) (rw 0x11 ∷ rw 0x11 ∷ replicate 60 (rw 0x10)))
+      ∷ length (played (flagged (order Tao (300 ∷ []))) (replicate 60 (plain 0x10 0 300)))
+      ∷ length (played (flagged (order Sao (300 ∷ []))) (replicate 60 (rw 0x10)))
+      ∷ []
+      ≡ 28 ∷ 37 ∷ 26 ∷ 35 ∷ []
+  -- no forged state waits at A1h without flag bit 3, or polls it without flag bit 2
+  pub forged :
+      passes (order Tao (300 ∷ [])) Blank 0
+      ∷ passesAt (immediate (order Tao (300 ∷ []))) Blank Ready 0
+      ∷ passesAt (flagged (order Tao (300 ∷ []))) Blank Ready 0
+      ∷ passes (flagged (order Tao (300 ∷ []))) Blank 0
+      ∷ passesAt (immediate (flagged (order Tao (300 ∷ [])))) Blank Sense 0
+      ∷ []
+      ≡ replicate 3 false ++ (true ∷ true ∷ [])
+
 pub record BenchSheets : Type 0 where
   -- those of the byte layouts
   pub layouts : Layouts.BenchSheets
@@ -251,8 +403,9 @@ pub record BenchSheets : Type 0 where
       ∷ (0x5B ∷ 0 ∷ 2 ∷ 0 ∷ 0 ∷ 0 ∷ 0 ∷ 0 ∷ 0 ∷ 0 ∷ [])
       ∷ (0x5D ∷ 0 ∷ 0 ∷ 0 ∷ 0 ∷ 0 ∷ 0 ∷ 0 ∷ 32 ∷ 0 ∷ [])
       ∷ []
-  -- document 02's polling
+  -- document 02's polling, and its erasing
   pub polling : PollSheets
+  pub erasing : EraseSheets
   -- finalized disc and a 299-block track: 6
   pub finalized : opened (order Tao (299 ∷ [])) (plain 2 0 299) ≡ 6
   -- a session at once on an appendable disc: 6
