@@ -23,7 +23,7 @@ fn answer_line(b: &[u8], line: &mut [u8]) -> usize {
     let op = operation(b);
     match op {
         1..=5 => read_line(op, b, line),
-        6..=19 => made_line(op, b, line),
+        6..=20 => made_line(op, b, line),
         _ => put_text(line, 0, b"bad request"),
     }
 }

@@ -22,7 +22,7 @@ use mmc::sheet::make_sheet;
 use mmc::units::BlockCount;
 use mmc::units::TrackNumber;
 
-// Makes what operation 6 to 19 asks for.
+// Makes what operation 6 to 20 asks for.
 fn make(op: u32, b: &[u8], out: &mut [u8]) -> Made {
     match op {
         6 => commands::get_configuration(out),
@@ -43,7 +43,8 @@ fn make(op: u32, b: &[u8], out: &mut [u8]) -> Made {
         16 => mode_data(order_at(b, 3), kind_at(b, 501), out),
         17 => make_sheet(order_at(b, 3), out),
         18 => commands::test_unit_ready(out),
-        _ => commands::request_sense(out),
+        19 => commands::request_sense(out),
+        _ => commands::blank(set_at(b, 3), out),
     }
 }
 
@@ -63,7 +64,7 @@ fn made_in(op: u32, b: &[u8], lent: &mut [u8], line: &mut [u8]) -> usize {
     put_bytes(line, bytes, lent)
 }
 
-// Answers a request of operation 6 to 19.
+// Answers a request of operation 6 to 20.
 pub(crate) fn made_line(op: u32, b: &[u8], line: &mut [u8]) -> usize {
     let mut space = [0xA5u8; 4096];
     let n = lent_length(b);

@@ -91,7 +91,7 @@ fn method_number(m: Method) -> u64 {
 
 // The number of the flags.
 fn flags_number(o: Order) -> u64 {
-    (flag(o.keep, 1) + flag(o.protect, 2) + flag(o.immed, 4)) as u64
+    (flag(o.keep, 1) + flag(o.protect, 2) + flag(o.immed, 4) + flag(o.erase, 8)) as u64
 }
 
 // Puts a track: its kind where kinds are asked for, and its length.

@@ -20,10 +20,11 @@
 //   17 sheet                    order at 3
 //   18 test-unit-ready
 //   19 request-sense
+//   20 blank                    Immed at 3
 //
 // Immed is set where its byte is not 0.
-// An order takes 498 bytes: method (1 TAO, 2 SAO), flags (1 keep, 2 protect, 4 Immed), count, and 99
-// rows of kind (0 audio, 1 data) and length (4 bytes).
+// An order takes 498 bytes: method (1 TAO, 2 SAO), flags (1 keep, 2 protect, 4 Immed, 8 erase), count,
+// and 99 rows of kind (0 audio, 1 data) and length (4 bytes).
 use crate::signed::signed;
 use mmc::bytes::byte_at;
 use mmc::bytes::number16;
@@ -139,6 +140,7 @@ pub(crate) fn order_at(b: &[u8], at: usize) -> Order {
         keep: flags % 2 == 1,
         protect: flags / 2 % 2 == 1,
         immed: flags / 4 % 2 == 1,
+        erase: flags / 8 % 2 == 1,
         count: count,
         tracks: tracks,
     }

@@ -67,6 +67,6 @@ testUnitReady = replicate 6 0
 abbrev pub requestSense : List ℕ
 requestSense = 0x03 ∷ 0 ∷ 0 ∷ 0 ∷ 0x12 ∷ 0 ∷ []
 
--- BLANK: A1h, blanking type 01h (minimal) in 1, Immed in bit 4 of 1, twelve bytes
+-- BLANK: A1h, 01h (minimal) in 1, Immed in bit 4 of 1, twelve bytes
 abbrev pub blank : Bool → List ℕ
 blank immed = 0xA1 ∷ (0x01 + if immed 0x10 0) ∷ replicate 10 0

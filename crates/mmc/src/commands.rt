@@ -155,7 +155,7 @@ pub fn request_sense(out: &mut [u8]) -> Made
     fill(&cdb, out)
 }
 
-// A1h: makes the disc blank, erasing as little as does (01h). Immed is bit 4 of byte 1.
+// A1h: blanks the disc, the least that makes it so (01h). Immed is bit 4 of byte 1.
 pub fn blank(immed: bool, out: &mut [u8]) -> Made
     ensures { λ r. ⌜ Fills (pass (blank immed)) r (now (out .entry)) (now (out .exit)) ⌝ }
 {

@@ -2,7 +2,8 @@
 use mathlib.Core.Path.{_≡_, refl, sym, ap, _∙_}
 use mathlib.Core.List.{List, [], _∷_, _++_, append-assoc}
 use mathlib.Core.Bool.{Bool, true, false, _&&_}
-use Prim.Native.Nat.{ℕ, zero, suc, _+_, _*_, _-_, _/_, _%_, _≤_}
+use Prim.Native.Nat.{ℕ, zero, suc, _+_, _*_, _-_, _/_, _%_, _≤_, _<_}
+use native.Mathlib.Nat.{add-le-add}
 use native.Mathlib.Omega.{arith}
 use borrow.Author.Tests.{eqb-true, leb-true, le-leb}
 use lib.Dec.{eqb, leb}
@@ -30,33 +31,35 @@ unfolding methodOf
 method-back Tao = refl
 method-back Sao = refl
 
--- a flag in its place is a bit times the place
-placed : (b : Bool) (n : ℕ) → (if b n 0 ≡ n * if b 1 0) × (if b 1 0 ≤ 1)
-placed true n = (omega arith, omega arith)
-placed false n = (omega arith, omega arith)
-
--- the lowest bit, and what stands above it
-bit-back : (b : Bool) (n x : ℕ) → n ≡ if b 1 0 + 2 * x → (eqb (n % 2) 1 ≡ b) × (n / 2 ≡ x)
-bit-back true n x h = let m : n % 2 ≡ 1 = omega arith in (rw m, omega arith)
-bit-back false n x h = let m : n % 2 ≡ 0 = omega arith in (rw m, omega arith)
-
-halves : (n : ℕ) → (n / 4 ≡ n / 2 / 2) × (n / 8 ≡ n / 2 / 2 / 2)
-halves n = (omega arith, omega arith)
-
 -- each flag of a byte that holds all four
 flags-back : (k p i e : Bool) → (keepOf (flagsByte k p i e) ≡ k) × (protectOf (flagsByte k p i e) ≡ p) × (immedOf (flagsByte k p i e) ≡ i) × (eraseOf (flagsByte k p i e) ≡ e)
 unfolding keepOf protectOf immedOf eraseOf
-flags-back k p i e =
-    let n : ℕ = flagsByte k p i e in
-    let k' = bit-back k n (if p 1 0 + 2 * (if i 1 0 + 2 * if e 1 0)) (omega (arith, placed p 2, placed i 4, placed e 8)) in
-    let p' = bit-back p (n / 2) (if i 1 0 + 2 * if e 1 0) (k' .1) in
-    let i' = bit-back i (n / 2 / 2) (if e 1 0) (p' .1) in
-    let e' = bit-back e (n / 2 / 2 / 2) 0 (omega (arith, i' .1)) in
-    (k' .0, p' .0, rw (halves n .0) (i' .0), rw (halves n .1) (e' .0))
+flags-back true true true true = (refl, refl, refl, refl)
+flags-back true true true false = (refl, refl, refl, refl)
+flags-back true true false true = (refl, refl, refl, refl)
+flags-back true true false false = (refl, refl, refl, refl)
+flags-back true false true true = (refl, refl, refl, refl)
+flags-back true false true false = (refl, refl, refl, refl)
+flags-back true false false true = (refl, refl, refl, refl)
+flags-back true false false false = (refl, refl, refl, refl)
+flags-back false true true true = (refl, refl, refl, refl)
+flags-back false true true false = (refl, refl, refl, refl)
+flags-back false true false true = (refl, refl, refl, refl)
+flags-back false true false false = (refl, refl, refl, refl)
+flags-back false false true true = (refl, refl, refl, refl)
+flags-back false false true false = (refl, refl, refl, refl)
+flags-back false false false true = (refl, refl, refl, refl)
+flags-back false false false false = (refl, refl, refl, refl)
 
 -- they are listed
+most : (b : Bool) (n : ℕ) → if b n 0 ≤ n
+most true n = omega arith
+most false n = omega arith
+
 flags-small : (k p i e : Bool) → leb (flagsByte k p i e) lastFlags ≡ true
-flags-small k p i e = le-leb (flagsByte k p i e) lastFlags (omega (arith, placed k 1, placed p 2, placed i 4, placed e 8))
+flags-small k p i e =
+    let h : flagsByte k p i e ≤ 15 = add-le-add (add-le-add (add-le-add (most k _) (most p _)) (most i _)) (most e _) in
+    le-leb (flagsByte k p i e) lastFlags (omega (arith, h))
 
 head-back : (m : Method) (f n : ℕ) (t : List ℕ) → leb f lastFlags ≡ true → headOk (1 ∷ methodByte m ∷ f ∷ n ∷ t) ≡ true
 unfolding headOk
@@ -70,20 +73,21 @@ method-is (suc zero) h k = refl
 method-is (suc (suc zero)) h k = refl
 method-is (suc (suc (suc n))) h k = absurd (omega arith)
 
-bit-is : (n m : ℕ) → n ≤ 1 → if (eqb n 1) m 0 ≡ m * n
-bit-is zero m h = omega arith
-bit-is (suc zero) m h = omega arith
-bit-is (suc (suc n)) m h = absurd (omega arith)
+-- a test of each number below k
+each : (ℕ → Bool) → ℕ → Bool
+each f zero = true
+each f (suc k) = f 0 && each (λ (n : ℕ). f (suc n)) k
 
+each-is : (f : ℕ → Bool) (k n : ℕ) → each f k ≡ true → n < k → f n ≡ true
+unfolding each
+each-is f zero n e h = absurd (omega arith)
+each-is f (suc k) zero e h = both (f 0) (each (λ (n : ℕ). f (suc n)) k) e .0
+each-is f (suc k) (suc n) e h = each-is (λ (n : ℕ). f (suc n)) k n (both (f 0) (each (λ (n : ℕ). f (suc n)) k) e .1) (omega arith)
+
+-- the bytes from 0 to 15, by a test that is computed
 flags-is : (n : ℕ) → n ≤ 15 → flagsByte (keepOf n) (protectOf n) (immedOf n) (eraseOf n) ≡ n
-unfolding keepOf protectOf immedOf eraseOf
-flags-is n h =
-    let z : n / 2 / 2 / 2 / 2 ≡ 0 = omega arith in
-    let k : if (keepOf n) 1 0 ≡ 1 * (n % 2) = bit-is (n % 2) 1 (omega arith) in
-    let p : if (protectOf n) 2 0 ≡ 2 * (n / 2 % 2) = bit-is (n / 2 % 2) 2 (omega arith) in
-    let i : if (immedOf n) 4 0 ≡ 4 * (n / 2 / 2 % 2) = rw (halves n .0) (bit-is (n / 2 / 2 % 2) 4 (omega arith)) in
-    let e : if (eraseOf n) 8 0 ≡ 8 * (n / 2 / 2 / 2 % 2) = rw (halves n .1) (bit-is (n / 2 / 2 / 2 % 2) 8 (omega arith)) in
-    omega arith
+unfolding each keepOf protectOf immedOf eraseOf
+flags-is n h = eqb-true _ n (each-is (λ (x : ℕ). eqb (flagsByte (keepOf x) (protectOf x) (immedOf x) (eraseOf x)) x) 16 n refl (omega arith))
 
 -- ---- the rows read back
 
