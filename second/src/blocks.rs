@@ -208,7 +208,7 @@ mod tests {
         assert_eq!(Refusal::Field.number(), 3);
     }
 
-    /// Flag bits 0 to 2 pass in every mix; any other bit is 3.
+    /// Flag bits 0 to 3 pass in every mix; any other bit is 3.
     #[test]
     fn flag_bytes() {
         for flags in 0..=255 {
@@ -216,12 +216,14 @@ mod tests {
             block[2] = flags;
             seal(&mut block);
             match read_order(&block) {
-                Ok(order) => assert!(flags < 8 && order_block(&order) == Ok(block)),
-                Err(refusal) => assert!(flags > 7 && refusal == Refusal::Field),
+                Ok(order) => assert!(flags < 16 && order_block(&order) == Ok(block)),
+                Err(refusal) => assert!(flags > 15 && refusal == Refusal::Field),
             }
         }
         let immed = order(Method::Tao, 4, &[(Kind::Data, 300)]);
         assert!(immed.flags.immed && !immed.flags.keep && !immed.flags.protect);
+        let erase = order(Method::Sao, 8, &[(Kind::Data, 300)]);
+        assert!(erase.flags.erase && !immed.flags.erase && !erase.flags.immed);
     }
 
     #[test]

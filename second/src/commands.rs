@@ -1,14 +1,15 @@
-//! The bytes of the ten commands.
+//! The bytes of the eleven commands.
 
 use crate::refusal::{require, Refusal};
 use crate::units::{Address, BlockCount, TrackNumber, FIRST_ADDRESS, LAST_ADDRESS};
 use std::ops::Deref;
 
-/// A command's bytes: ten, or six for 00h and 03h.
+/// A command's bytes: ten, or six for 00h and 03h, or twelve for A1h.
 #[derive(Clone, Copy, PartialEq, Eq, Debug)]
 pub enum Bytes {
     Six([u8; 6]),
     Ten([u8; 10]),
+    Twelve([u8; 12]),
 }
 
 impl Deref for Bytes {
@@ -18,6 +19,7 @@ impl Deref for Bytes {
         match self {
             Bytes::Six(bytes) => bytes,
             Bytes::Ten(bytes) => bytes,
+            Bytes::Twelve(bytes) => bytes,
         }
     }
 }
@@ -32,6 +34,7 @@ pub const SEND_CUE_SHEET: u8 = 0x5D;
 pub const WRITE: u8 = 0x2A;
 pub const SYNCHRONIZE_CACHE: u8 = 0x35;
 pub const CLOSE_TRACK_SESSION: u8 = 0x5B;
+pub const BLANK: u8 = 0xA1;
 
 pub const CLOSE_TRACK: u8 = 1;
 pub const CLOSE_SESSION: u8 = 2;
@@ -41,9 +44,12 @@ pub const MOST_BLOCKS: u64 = 16;
 /// Sense data up to its last progress byte.
 pub const SENSE_LENGTH: u8 = 18;
 
-/// Immed in byte 1 of 35h and of 5Bh.
+/// Immed in byte 1 of 35h, of 5Bh and of A1h.
 const SYNCHRONIZE_IMMED: u8 = 0x02;
 const CLOSE_IMMED: u8 = 0x01;
+const BLANK_IMMED: u8 = 0x10;
+/// A1h erases what is needed and no more.
+const BLANK_MINIMALLY: u8 = 0x01;
 
 /// A command of an operation code with a length in bytes 7 and 8.
 fn with_length(code: u8, length: u16) -> [u8; 10] {
@@ -121,6 +127,17 @@ pub fn close_track_session(
     Ok(Bytes::Ten(bytes))
 }
 
+/// Twelve bytes with 01h in byte 1, 11h with Immed.
+pub fn blank(immed: bool) -> Bytes {
+    let mut bytes = [0; 12];
+    bytes[0] = BLANK;
+    bytes[1] = BLANK_MINIMALLY;
+    if immed {
+        bytes[1] |= BLANK_IMMED;
+    }
+    Bytes::Twelve(bytes)
+}
+
 pub fn test_unit_ready() -> Bytes {
     Bytes::Six([TEST_UNIT_READY, 0, 0, 0, 0, 0])
 }
@@ -129,11 +146,12 @@ pub fn request_sense() -> Bytes {
     Bytes::Six([REQUEST_SENSE, 0, 0, 0, SENSE_LENGTH, 0])
 }
 
-/// Whether a command is a 35h or a 5Bh with Immed set.
+/// Whether a command is a 35h, a 5Bh or an A1h with Immed set.
 pub fn has_immed(bytes: &[u8]) -> bool {
     match bytes[0] {
         SYNCHRONIZE_CACHE => bytes[1] & SYNCHRONIZE_IMMED != 0,
         CLOSE_TRACK_SESSION => bytes[1] & CLOSE_IMMED != 0,
+        BLANK => bytes[1] & BLANK_IMMED != 0,
         _ => false,
     }
 }
@@ -230,5 +248,14 @@ mod tests {
         assert_eq!(close(3, 0), Err(Refusal::Range));
         assert!(has_immed(&synchronize_cache(true)) && has_immed(&close(2, 0).unwrap()));
         assert!(!has_immed(&synchronize_cache(false)) && !has_immed(&read_track_information()));
+    }
+
+    /// Document 02, Ask 2: twelve bytes, 01h in byte 1, 11h with Immed.
+    #[test]
+    fn blank_bytes() {
+        let zeros = " 00".repeat(10);
+        assert_eq!(plain(&blank(false)), format!("A1 01{zeros}"));
+        assert_eq!(plain(&blank(true)), format!("A1 11{zeros}"));
+        assert!(has_immed(&blank(true)) && !has_immed(&blank(false)));
     }
 }

@@ -1,8 +1,9 @@
 //! A fixed set of named jobs, at least one for each sentence of document 01
-//! that a job can show. Those of document 02, Ask 1, stand in
-//! `polling_corners`.
+//! that a job can show. Those of document 02, Asks 1 and 2, stand in
+//! `polling_corners` and `erasing_corners`.
 
 use crate::blocks::{seal, BLOCK};
+use crate::erasing_corners::erasing;
 use crate::hex;
 use crate::polling_corners::polling;
 use crate::text::blocks_of;
@@ -47,6 +48,7 @@ pub fn corners() -> Vec<Corner> {
     recording(&mut list);
     counts(&mut list);
     polling(&mut list);
+    erasing(&mut list);
     list.0
 }
 
@@ -150,9 +152,9 @@ fn order_blocks(list: &mut List) {
         let name = format!("order-method-{value}");
         list.changed(&name, "stop 3 0", "order: the method is neither 1 nor 2: 3", job, (0, 1, value));
     }
-    for value in [8, 0x0C, 0x80, 255] {
+    for value in [0x10, 0x18, 0x80, 255] {
         let name = format!("order-flags-{value}");
-        list.changed(&name, "stop 3 0", "order: a flag bit besides 0 to 2: 3", job, (0, 2, value));
+        list.changed(&name, "stop 3 0", "order: a flag bit besides 0 to 3: 3", job, (0, 2, value));
     }
     for value in [0, 100, 101, 255] {
         let name = format!("order-count-{value}");
@@ -240,7 +242,7 @@ fn replies_46h(list: &mut List) {
     }
 }
 
-fn disc_data(length: usize, field: u16, byte_2: u8) -> String {
+pub(crate) fn disc_data(length: usize, field: u16, byte_2: u8) -> String {
     let mut data = vec![0; length];
     data[..2].copy_from_slice(&field.to_be_bytes());
     data[2] = byte_2;
@@ -289,7 +291,7 @@ fn replies_51h(list: &mut List) {
 }
 
 /// A 52h reply with NWA_V set, address 0 and 300 free blocks.
-fn track_data(length: usize, field: u16, changes: &[(usize, u8)]) -> String {
+pub(crate) fn track_data(length: usize, field: u16, changes: &[(usize, u8)]) -> String {
     let mut data = vec![0; length.max(28)];
     data[..2].copy_from_slice(&field.to_be_bytes());
     data[7] = 1;

@@ -3,7 +3,7 @@
 
 use crate::blocks::{Reply, Status};
 use crate::commands::{
-    has_immed, CLOSE_TRACK, CLOSE_TRACK_SESSION, GET_CONFIGURATION, READ_DISC_INFORMATION,
+    has_immed, BLANK, CLOSE_TRACK, CLOSE_TRACK_SESSION, GET_CONFIGURATION, READ_DISC_INFORMATION,
     READ_TRACK_INFORMATION, REQUEST_SENSE, TEST_UNIT_READY, WRITE,
 };
 use crate::rng::Rng;
@@ -16,6 +16,9 @@ pub struct Drive {
     pub profile: u16,
     /// Disc status, 0 to 3.
     pub disc: u8,
+    pub erasable: bool,
+    /// Disc status after an A1h; 0 where the drive works.
+    pub erased: u8,
     pub next_writable: u32,
     pub free: u32,
     /// Blocks between a closed track and the next one's start.
@@ -85,8 +88,9 @@ impl Drive {
         }
         let reply = match command[0] {
             GET_CONFIGURATION => profile_reply(self.profile),
-            READ_DISC_INFORMATION => disc_reply(self.disc),
+            READ_DISC_INFORMATION => disc_reply(self.disc, self.erasable),
             READ_TRACK_INFORMATION => track_reply(self.track_fields()),
+            BLANK => self.erase(),
             WRITE => self.write(command),
             CLOSE_TRACK_SESSION => self.close(command),
             TEST_UNIT_READY => self.polling.ready(rng),
@@ -107,6 +111,11 @@ impl Drive {
             damaged: false,
             address_valid: true,
         }
+    }
+
+    fn erase(&mut self) -> Reply {
+        self.disc = self.erased;
+        Reply::good(&[])
     }
 
     /// The track grows; what is free shrinks.
@@ -149,8 +158,8 @@ pub fn noise(code: u8, mut reply: Reply, rng: &mut Rng) -> Reply {
             let more = rng.below(10) as usize;
             data.extend(rng.bytes(more));
             data[..2].copy_from_slice(&(rng.between(32, 65_535) as u16).to_be_bytes());
-            // Erasable and the state of the last session.
-            data[2] |= rng.byte() & 0x1C;
+            // The state of the last session.
+            data[2] |= rng.byte() & 0x0C;
             let rest: Vec<usize> = (3..34).collect();
             noise_at(data, rng, &rest);
         }

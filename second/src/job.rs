@@ -1,17 +1,19 @@
-//! The plain job of document 01, "Recording rules", with the polling of
-//! document 02, Ask 1: an order is taken, then replies are given; each time a
-//! command, the end as done, or a refusal comes out.
+//! The plain job of document 01, "Recording rules", with the polling and the
+//! erasing of document 02, Asks 1 and 2: an order is taken, then replies are
+//! given; each time a command, the end as done, or a refusal comes out.
 //!
 //! The job is a flat list of steps with a place in it. The three opening
 //! steps stand there from the start; the others are laid down once the third
 //! reply has passed the checks, so that the list stays short. With Immed, a
-//! 00h and a 03h stand behind each 35h and 5Bh; they are gone through until
-//! the drive has finished.
+//! 00h and a 03h stand behind each 35h, 5Bh and A1h; they are gone through
+//! until the drive has finished. With the flag for erasing, the first 51h's
+//! reply is judged at once, and where the disc is used an A1h and a second 51h
+//! are put in ahead of the 52h.
 
 use crate::blocks::{read_order, Reply, Status};
 use crate::commands::{self, Bytes, CLOSE_SESSION, CLOSE_TRACK, MOST_BLOCKS};
 use crate::refusal::{require, Refusal};
-use crate::replies::{self, Disc, Failure, TrackInformation};
+use crate::replies::{self, Disc, DiscInformation, Failure, TrackInformation};
 use crate::sheet::{ENTRY, MORE_ENTRIES};
 use crate::units::{
     check_lead_out, Address, BlockCount, Method, Order, TrackNumber, FIRST_ADDRESS,
@@ -21,6 +23,9 @@ use crate::units::{
 const PAUSE: u64 = 150;
 /// 5Bh function 1 closes the track with this number.
 const INVISIBLE_TRACK: TrackNumber = TrackNumber(0xFF);
+/// The profiles of the discs that are recorded.
+const CD_R: u16 = 0x0009;
+const CD_RW: u16 = 0x000A;
 
 /// The blocks a WRITE takes: of track 0 (the pause) or a track from 1, from
 /// this first block, counted from 0.
@@ -50,6 +55,10 @@ pub enum Answer {
 pub enum Step {
     GetConfiguration,
     ReadDiscInformation,
+    /// A1h, where a used disc is erased.
+    Blank,
+    /// 51h anew, after an erasing.
+    ReadDiscAgain,
     /// 52h ahead of its track.
     ReadTrackInformation(usize),
     ModeSelect(usize),
@@ -76,9 +85,9 @@ pub struct Job {
     steps: Vec<Step>,
     place: usize,
     ended: bool,
-    /// Fields read from 46h and 51h.
+    /// Fields read from 46h and the first 51h.
     profile: u16,
-    disc: Disc,
+    disc: DiscInformation,
     /// Where the next WRITE starts: at the address of the latest 52h in TAO,
     /// at -150 in SAO, afterwards where the last good WRITE ended.
     address: Address,
@@ -114,7 +123,10 @@ impl Job {
             place: 0,
             ended: false,
             profile: 0,
-            disc: Disc::Other,
+            disc: DiscInformation {
+                status: Disc::Other,
+                erasable: false,
+            },
             address: Address(FIRST_ADDRESS),
             ready: false,
             progress: 0,
@@ -210,7 +222,11 @@ impl Job {
     fn judge(&mut self, data: &[u8]) -> Result<(), Refusal> {
         match self.step() {
             Step::GetConfiguration => self.profile = replies::profile(data)?,
-            Step::ReadDiscInformation => self.disc = replies::disc(data)?,
+            Step::ReadDiscInformation => {
+                self.disc = replies::disc(data)?;
+                self.judge_disc()?;
+            }
+            Step::ReadDiscAgain => check_erased(replies::disc(data)?)?,
             Step::ReadTrackInformation(index) => {
                 let info = replies::track_information(data)?;
                 self.judge_track(index, info)?;
@@ -218,7 +234,7 @@ impl Job {
             Step::Write(blocks) => self.address = self.address.after(blocks.count),
             Step::TestUnitReady => self.ready = true,
             Step::RequestSense => self.progress = replies::progress(data)?,
-            Step::SynchronizeCache(_) | Step::CloseTrack(_) | Step::CloseSession => {
+            Step::SynchronizeCache(_) | Step::CloseTrack(_) | Step::CloseSession | Step::Blank => {
                 // A polling may begin here.
                 self.progress = 0;
             }
@@ -227,19 +243,42 @@ impl Job {
         Ok(())
     }
 
-    /// After the third reply 5 to 10, at a later 52h 7 and 10.
+    /// After the first 51h, with the flag for erasing alone: 5, 6 for status 3,
+    /// 8, 9, 10 for S alone, 16. The steps of an erasing come next where the
+    /// disc is used.
+    fn judge_disc(&mut self) -> Result<(), Refusal> {
+        let Some(order) = self.order.as_ref().filter(|order| order.flags.erase) else {
+            return Ok(());
+        };
+        check_profile(self.profile)?;
+        require(self.disc.status != Disc::Other, Refusal::DiscStatus)?;
+        order.check_session()?;
+        order.check_lengths()?;
+        check_lead_out(Address(0).after(order.blocks_from(0)))?;
+        if self.disc.status != Disc::Blank {
+            check_erasable(self.profile, self.disc)?;
+            let next = self.place + 1;
+            self.steps.splice(next..next, erasing(order));
+        }
+        Ok(())
+    }
+
+    /// After the opening's 52h 5 to 10, at a later 52h 7 and 10. With the flag
+    /// for erasing all but 7 and 10 were judged before.
     fn judge_track(&mut self, index: usize, info: TrackInformation) -> Result<(), Refusal> {
         let Some(order) = &self.order else {
             return Err(Refusal::Field);
         };
-        if index == 0 {
+        let judge_all = index == 0 && !order.flags.erase;
+        if judge_all {
             check_profile(self.profile)?;
-            check_disc(order.method, self.disc)?;
-            check_usable(order.method, info, None)?;
+            check_disc(order.method, self.disc.status)?;
+        }
+        let previous_end = (index > 0).then_some(self.address);
+        check_usable(order.method, info, previous_end)?;
+        if judge_all {
             order.check_session()?;
             order.check_lengths()?;
-        } else {
-            check_usable(order.method, info, Some(self.address))?;
         }
         check_fit(order, index, info)?;
         self.address = start(order.method, info);
@@ -270,7 +309,8 @@ impl Job {
         let immed = self.order().is_some_and(|order| order.flags.immed);
         Ok(match step {
             Step::GetConfiguration => commands::get_configuration(),
-            Step::ReadDiscInformation => commands::read_disc_information(),
+            Step::ReadDiscInformation | Step::ReadDiscAgain => commands::read_disc_information(),
+            Step::Blank => commands::blank(immed),
             Step::ReadTrackInformation(_) => commands::read_track_information(),
             Step::ModeSelect(_) => commands::mode_select(),
             Step::SendCueSheet => commands::send_cue_sheet(self.sheet_length())?,
@@ -295,7 +335,7 @@ impl Job {
 
 /// Number 5.
 fn check_profile(profile: u16) -> Result<(), Refusal> {
-    require(profile == 0x0009 || profile == 0x000A, Refusal::Profile)
+    require(profile == CD_R || profile == CD_RW, Refusal::Profile)
 }
 
 /// Number 6: TAO needs blank or appendable, SAO needs blank.
@@ -305,6 +345,17 @@ fn check_disc(method: Method, disc: Disc) -> Result<(), Refusal> {
         Method::Sao => disc == Disc::Blank,
     };
     require(suitable, Refusal::DiscStatus)
+}
+
+/// Number 6 after an erasing: the disc is blank, in TAO too. Erasable is not
+/// judged again.
+fn check_erased(disc: DiscInformation) -> Result<(), Refusal> {
+    require(disc.status == Disc::Blank, Refusal::DiscStatus)
+}
+
+/// Number 16, of a used disc that is to be erased.
+fn check_erasable(profile: u16, disc: DiscInformation) -> Result<(), Refusal> {
+    require(profile == CD_RW && disc.erasable, Refusal::NotErasable)
 }
 
 /// Number 7: Damage set; or, in TAO, NWA_V clear or an address below the end
@@ -343,6 +394,13 @@ fn start(method: Method, info: TrackInformation) -> Address {
     }
 }
 
+/// The steps of an erasing: A1h, its polling, 51h anew.
+fn erasing(order: &Order) -> Vec<Step> {
+    let mut steps = polled(order, Step::Blank);
+    steps.push(Step::ReadDiscAgain);
+    steps
+}
+
 /// All steps after the opening.
 fn recording(order: &Order) -> Vec<Step> {
     match order.method {
@@ -361,10 +419,10 @@ fn tao(order: &Order) -> Vec<Step> {
         }
         steps.push(Step::ModeSelect(index));
         steps.extend(writes(number(index), track.length.into()));
-        steps.extend(closing(order, Step::SynchronizeCache(index)));
-        steps.extend(closing(order, Step::CloseTrack(index)));
+        steps.extend(polled(order, Step::SynchronizeCache(index)));
+        steps.extend(polled(order, Step::CloseTrack(index)));
     }
-    steps.extend(closing(order, Step::CloseSession));
+    steps.extend(polled(order, Step::CloseSession));
     steps
 }
 
@@ -376,12 +434,12 @@ fn sao(order: &Order) -> Vec<Step> {
         steps.extend(writes(number(index), track.length.into()));
     }
     let last = order.tracks.len() - 1;
-    steps.extend(closing(order, Step::SynchronizeCache(last)));
+    steps.extend(polled(order, Step::SynchronizeCache(last)));
     steps
 }
 
-/// A 35h or 5Bh, with Immed the polling behind it.
-fn closing(order: &Order, step: Step) -> Vec<Step> {
+/// A 35h, 5Bh or A1h, with Immed the polling behind it.
+fn polled(order: &Order, step: Step) -> Vec<Step> {
     if order.flags.immed {
         vec![step, Step::TestUnitReady, Step::RequestSense]
     } else {
@@ -431,7 +489,7 @@ mod tests {
     }
 
     fn opening(disc: u8, third: Reply) -> Vec<Reply> {
-        vec![profile_reply(9), disc_reply(disc), third]
+        vec![profile_reply(9), disc_reply(disc, false), third]
     }
 
     fn give_all(job: &mut Job, replies: &[Reply]) -> Answer {
@@ -451,7 +509,7 @@ mod tests {
         while let Answer::Command(command) = answer {
             let reply = match command.bytes[0] {
                 commands::GET_CONFIGURATION => profile_reply(9),
-                commands::READ_DISC_INFORMATION => disc_reply(disc),
+                commands::READ_DISC_INFORMATION => disc_reply(disc, false),
                 commands::READ_TRACK_INFORMATION => infos.next().unwrap().clone(),
                 _ => Reply::good(&[]),
             };
@@ -608,7 +666,7 @@ mod tests {
         };
         let line = "sao keep data 299 audio 300";
         let mut job = take(line).0;
-        let replies = [profile_reply(8), disc_reply(2), track_reply(damaged)];
+        let replies = [profile_reply(8), disc_reply(2, false), track_reply(damaged)];
         assert_eq!(give_all(&mut job, &replies), refused(Refusal::Profile));
         let third = || track_reply(damaged);
         assert_eq!(stop(line, 2, third()).0, refused(Refusal::DiscStatus));
@@ -730,6 +788,131 @@ mod tests {
         assert_eq!(job.give(&progress_reply(0)), Answer::Done);
         assert_eq!((job.progress(), job.count()), (0, 35 + 7));
         assert_eq!(job.give(&progress_reply(9)), refused(Refusal::Ended));
+    }
+
+    /// An erasing job up to its first 51h.
+    fn opened(line: &str, profile: u16, disc: u8, erasable: bool) -> (Job, Answer) {
+        let mut job = take(line).0;
+        let replies = [profile_reply(profile), disc_reply(disc, erasable)];
+        let answer = give_all(&mut job, &replies);
+        (job, answer)
+    }
+
+    fn bytes_of(answer: Answer) -> String {
+        match answer {
+            Answer::Command(command) => plain(&command.bytes),
+            _ => format!("{answer:?}"),
+        }
+    }
+
+    /// Ask 2: A1h, 51h anew, 52h; the count grows by 2.
+    #[test]
+    fn a_used_disc_is_erased() {
+        for (line, disc, rest, count) in [
+            ("tao erase data 300", 1, 23, 28),
+            ("tao erase data 300", 2, 23, 28),
+            ("sao erase data 300", 1, 32, 37),
+            ("sao erase data 300", 2, 32, 37),
+        ] {
+            let (mut job, answer) = opened(line, 0x000A, disc, true);
+            assert_eq!(bytes_of(answer), format!("A1 01{}", " 00".repeat(10)));
+            assert_eq!((job.step(), job.count()), (Step::Blank, 3));
+            job.give(&Reply::good(&[]));
+            assert_eq!((job.step(), job.count()), (Step::ReadDiscAgain, 4));
+            job.give(&disc_reply(0, false));
+            assert_eq!(job.step(), Step::ReadTrackInformation(0));
+            job.give(&track(0, 300));
+            let answer = give_all(&mut job, &vec![Reply::good(&[]); rest]);
+            assert_eq!((answer, job.count()), (Answer::Done, count));
+        }
+    }
+
+    /// With Immed A1h has 11h in byte 1 and is polled; progress starts at 0.
+    #[test]
+    fn an_erasing_is_polled() {
+        let (mut job, answer) = opened("sao immed erase data 300", 0x000A, 2, true);
+        assert_eq!(bytes_of(answer), format!("A1 11{}", " 00".repeat(10)));
+        job.give(&Reply::good(&[]));
+        assert_eq!((job.step(), job.progress()), (Step::TestUnitReady, 0));
+        let polls = [sense_reply(0x70, 2, 4, 8), progress_reply(0x8000)];
+        give_all(&mut job, &polls);
+        assert_eq!((job.step(), job.progress()), (Step::TestUnitReady, 0x8000));
+        give_all(&mut job, &[Reply::good(&[]), progress_reply(0)]);
+        assert_eq!((job.step(), job.progress()), (Step::ReadDiscAgain, 0));
+        assert_eq!(job.count(), 8);
+    }
+
+    /// Blank discs, CD-R too, are recorded without erasing.
+    #[test]
+    fn a_blank_disc_is_not_erased() {
+        for (profile, erasable) in [(9, false), (9, true), (10, false), (10, true)] {
+            let (mut job, _) = opened("tao erase data 300", profile, 0, erasable);
+            assert_eq!(job.step(), Step::ReadTrackInformation(0));
+            job.give(&track(0, 300));
+            let answer = give_all(&mut job, &vec![Reply::good(&[]); 23]);
+            assert_eq!((answer, job.count()), (Answer::Done, 26));
+        }
+    }
+
+    /// After the first 51h: 5, 6 for status 3, 8, 9, 10 for S alone, 16.
+    #[test]
+    fn numbers_at_the_first_51h() {
+        let stop = |line: &str, profile, disc, erasable| {
+            let (job, answer) = opened(line, profile, disc, erasable);
+            assert_eq!(job.count(), 2);
+            match answer {
+                Answer::Refused(refusal) => refusal.number(),
+                _ => panic!("{answer:?}"),
+            }
+        };
+        let worst = "sao keep erase data 299 audio 4294967295";
+        assert_eq!(stop(worst, 8, 3, false), 5);
+        assert_eq!(stop(worst, 9, 3, false), 6);
+        assert_eq!(stop(worst, 9, 2, false), 8);
+        assert_eq!(stop("sao erase data 299 audio 449850", 9, 2, false), 8);
+        assert_eq!(stop("sao erase data 299 data 449850", 9, 2, false), 9);
+        assert_eq!(stop("tao erase data 299 data 449850", 9, 2, false), 9);
+        assert_eq!(stop("tao erase data 449850", 9, 2, false), 10);
+        assert_eq!(stop("tao erase data 449849", 9, 2, true), 16);
+        assert_eq!(stop("tao erase data 300", 10, 1, false), 16);
+        assert_eq!(stop("tao erase data 299", 9, 0, false), 9);
+        assert_eq!(stop("tao erase data 449850", 9, 0, false), 10);
+    }
+
+    /// At the second 51h 4 and 6; only blank passes, in TAO too.
+    #[test]
+    fn numbers_at_the_second_51h() {
+        for line in ["tao erase data 300", "sao erase data 300"] {
+            let again = |reply: &Reply| {
+                let (mut job, _) = opened(line, 10, 1, true);
+                job.give(&Reply::good(&[]));
+                let answer = job.give(reply);
+                (answer, job.step(), job.count())
+            };
+            for status in 1..4 {
+                let (answer, _, count) = again(&disc_reply(status, true));
+                assert_eq!((answer, count), (refused(Refusal::DiscStatus), 4));
+            }
+            let (answer, _, count) = again(&Reply::good(&[0; 33]));
+            assert_eq!((answer, count), (refused(Refusal::Reply), 4));
+            let (_, step, count) = again(&disc_reply(0, false));
+            assert_eq!((step, count), (Step::ReadTrackInformation(0), 5));
+        }
+    }
+
+    /// Without the flag everything is as before: Erasable doesn't count, and
+    /// 5, 6, 8, 9 wait for the third reply.
+    #[test]
+    fn without_the_flag_nothing_is_erased() {
+        for line in ["tao data 300", "sao keep data 299", "tao immed data 449850"] {
+            for profile in [8, 9, 10] {
+                for disc in 0..4 {
+                    let (job, _) = opened(line, profile, disc, true);
+                    assert_eq!(job.step(), Step::ReadTrackInformation(0));
+                    assert_eq!((job.count(), job.ended()), (3, false));
+                }
+            }
+        }
     }
 
     #[test]

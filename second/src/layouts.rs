@@ -139,6 +139,7 @@ fn make_command(name: &str, words: &[&str]) -> Option<Made> {
             let track = TrackNumber(number(track)?);
             commands::close_track_session(number(function)?, track, bit(immed)?)
         }
+        ("blank", [immed]) => Ok(commands::blank(bit(immed)?)),
         ("test-unit-ready", []) => Ok(commands::test_unit_ready()),
         ("request-sense", []) => Ok(commands::request_sense()),
         _ => return None,
@@ -248,6 +249,19 @@ mod tests {
         assert_eq!(answer("test-unit-ready 0"), "refused 11 -");
     }
 
+    /// Document 02, Ask 2: twelve bytes, 11h in byte 1 with Immed.
+    #[test]
+    fn blank_command() {
+        let zeros = " 00".repeat(10);
+        assert_eq!(answer("blank 12 0"), format!("ok A1 01{zeros}"));
+        assert_eq!(answer("blank 13 1"), format!("ok A1 11{zeros} A5"));
+        assert_eq!(
+            answer("blank 11 1"),
+            format!("refused 11{}", " A5".repeat(11))
+        );
+        assert_eq!(answer("blank 0 0"), "refused 11 -");
+    }
+
     #[test]
     fn orders() {
         let written = answer("order-write 512 2 0 1 1 300");
@@ -260,8 +274,13 @@ mod tests {
         assert!(immed.ends_with(" 00 00 36"));
         let read = immed.replacen("ok", "order-read", 1);
         assert_eq!(answer(&read), "ok 2 4 1 1 300");
-        let flags_8 = read.replacen("01 02 04", "01 02 08", 1);
-        assert_eq!(answer(&flags_8.replace("00 36", "00 3A")), "refused 3");
+        let erase = answer("order-write 512 2 12 1 1 300");
+        assert!(erase.starts_with("ok 01 02 0C 01 01 00 00 01 2C 00"));
+        assert!(erase.ends_with(" 00 00 3E"));
+        let read = erase.replacen("ok", "order-read", 1);
+        assert_eq!(answer(&read), "ok 2 12 1 1 300");
+        let flags_16 = read.replacen("01 02 0C", "01 02 10", 1);
+        assert_eq!(answer(&flags_16.replace("00 3E", "00 42")), "refused 3");
         assert_eq!(answer("order-write 1 2 0 0"), "refused 3 A5");
         let pairs = " 0 300".repeat(99);
         assert_eq!(
@@ -318,7 +337,7 @@ mod tests {
             "order-read",
             "order-read 1",
             "order-write 512 3 0 1 0 300",
-            "order-write 512 1 8 1 0 300",
+            "order-write 512 1 16 1 0 300",
             "order-write 512 1 0 2 0 300",
             "order-write 512 1 0 1 2 300",
             "write 10 0 -1",
@@ -334,6 +353,9 @@ mod tests {
             "close-track-session 10 1 0 2",
             "synchronize-cache 10",
             "synchronize-cache 10 2",
+            "blank 12",
+            "blank 12 2",
+            "blank 12 0 0",
             "test-unit-ready 6 0",
             "request-sense",
         ] {

@@ -1,6 +1,6 @@
 //! An independent second program for document 01 ("What we will build and its
-//! rules") and document 02's polling (Ask 1) and CD-TEXT (Ask 4), written
-//! without sight of the program that it is compared with.
+//! rules") and document 02's polling (Ask 1), erasing (Ask 2) and CD-TEXT (Ask
+//! 4), written without sight of the program that it is compared with.
 //!
 //! The rules live in `units`, `refusal`, `blocks`, `times`, `page`, `sheet`,
 //! `commands`, `replies`, `job`, `follow`, `print`, `watch` and `cdtext`. The
@@ -8,8 +8,8 @@
 //! the byte layouts, `packed` gives them in a binary form, `cdtext_requests`
 //! answers those over CD-TEXT, `text` gives a job and `stops` stop names in
 //! plain text, and `drive`, `random`, `polling_random`, `corners`,
-//! `polling_corners`, `requests`, `cdtext_forge`, `cdtext_random` and
-//! `cdtext_corners` make test material.
+//! `polling_corners`, `erasing_corners`, `requests`, `cdtext_forge`,
+//! `cdtext_random` and `cdtext_corners` make test material.
 
 #![forbid(unsafe_code)]
 
@@ -41,6 +41,8 @@ pub mod cdtext_random;
 #[rustfmt::skip] // a table with one job a line
 pub mod corners;
 pub mod drive;
+#[rustfmt::skip] // likewise
+pub mod erasing_corners;
 #[rustfmt::skip] // likewise
 pub mod polling_corners;
 pub mod polling_random;

@@ -23,10 +23,11 @@
 //! 17 sheet                    order
 //! 18 test-unit-ready
 //! 19 request-sense
+//! 20 blank                    immed
 //! ```
 //!
-//! An order is its method, flags (1 keep, 2 protect, 4 immed) and count, and
-//! 99 rows of kind and length (4); rows behind its tracks are 0.
+//! An order is its method, flags (1 keep, 2 protect, 4 immed, 8 erase) and
+//! count, and 99 rows of kind and length (4); rows behind its tracks are 0.
 
 use crate::hex;
 use crate::layouts::{bit, is_request, number, order, reply};
@@ -39,7 +40,7 @@ const MOST: usize = 4_096;
 const WIDTH: usize = 120;
 
 /// The operations by their numbers, from 1 on.
-const OPERATIONS: [&str; 19] = [
+const OPERATIONS: [&str; 20] = [
     "time",
     "address",
     "order-read",
@@ -59,6 +60,7 @@ const OPERATIONS: [&str; 19] = [
     "sheet",
     "test-unit-ready",
     "request-sense",
+    "blank",
 ];
 
 /// The lines of a text that are requests.
@@ -129,7 +131,7 @@ fn maker(name: &str, lent: &str, words: &[&str]) -> Option<Vec<u8>> {
             bytes.extend(number::<i64>(address)?.to_be_bytes());
             bytes.extend(number::<u32>(count)?.to_be_bytes());
         }
-        ("synchronize-cache", [immed]) => bytes.push(bit(immed)?.into()),
+        ("synchronize-cache" | "blank", [immed]) => bytes.push(bit(immed)?.into()),
         ("close-track-session", [function, track, immed]) => {
             bytes.push(number(function)?);
             bytes.extend(number::<u16>(track)?.to_be_bytes());
@@ -194,6 +196,8 @@ mod tests {
         assert_eq!(hex_of("synchronize-cache 11 1"), "00 04 0A 00 0B 01");
         assert_eq!(hex_of("test-unit-ready 6"), "00 03 12 00 06");
         assert_eq!(hex_of("request-sense 7"), "00 03 13 00 07");
+        assert_eq!(hex_of("blank 12 0"), "00 04 14 00 0C 00");
+        assert_eq!(hex_of("blank 11 1"), "00 04 14 00 0B 01");
         assert_eq!(hex_of("reply-write 512 1 70"), "00 05 0E 02 00 01 70");
     }
 
@@ -205,6 +209,11 @@ mod tests {
         assert_eq!(page[..14], head);
         assert!(page[13..503].iter().all(|&byte| byte == 0));
         assert_eq!(page[503], 1);
+        let erase = pack("order-write 512 1 15 1 0 301").unwrap();
+        assert_eq!(
+            erase[..13],
+            [0x01, 0xF5, 15, 2, 0, 1, 15, 1, 0, 0, 0, 1, 0x2D]
+        );
         let many = pack(&format!("sheet 0 1 0 255{}", " 1 1".repeat(99))).unwrap();
         assert_eq!(many[7], 255);
         assert_eq!(many[many.len() - 5..], [1, 0, 0, 0, 1]);

@@ -3,7 +3,7 @@
 
 use crate::blocks::{order_block, read_reply, reply_block, seal, Reply, Status, BLOCK, CHECK};
 use crate::commands::{
-    CLOSE_TRACK_SESSION, GET_CONFIGURATION, MODE_SELECT, READ_DISC_INFORMATION,
+    BLANK, CLOSE_TRACK_SESSION, GET_CONFIGURATION, MODE_SELECT, READ_DISC_INFORMATION,
     READ_TRACK_INFORMATION, REQUEST_SENSE, SEND_CUE_SHEET, SYNCHRONIZE_CACHE, TEST_UNIT_READY,
     WRITE,
 };
@@ -43,7 +43,9 @@ fn order(rng: &mut Rng, notes: &mut Vec<String>) -> Order {
     let flags = flags(rng, method);
     let kinds = kinds(rng, method, count);
     let mut lengths: Vec<u32> = (0..count).map(|_| usual_length(rng)).collect();
-    odd_lengths(rng, method, &mut lengths, notes);
+    // S alone has a limit in SAO, and with the flag for erasing.
+    let limited = method == Method::Sao || flags.erase;
+    odd_lengths(rng, limited, &mut lengths, notes);
     let tracks = kinds
         .into_iter()
         .zip(lengths)
@@ -72,6 +74,7 @@ fn flags(rng: &mut Rng, method: Method) -> Flags {
         keep: rng.chance(keep_percent),
         protect: rng.chance(50),
         immed: rng.chance(50),
+        erase: rng.chance(50),
     }
 }
 
@@ -95,7 +98,7 @@ fn usual_length(rng: &mut Rng) -> u32 {
 }
 
 /// Sometimes a length below 300, a huge one, or a sum at a limit.
-fn odd_lengths(rng: &mut Rng, method: Method, lengths: &mut [u32], notes: &mut Vec<String>) {
+fn odd_lengths(rng: &mut Rng, limited: bool, lengths: &mut [u32], notes: &mut Vec<String>) {
     let place = rng.below(lengths.len() as u64) as usize;
     match rng.below(100) {
         0..=3 => {
@@ -111,7 +114,7 @@ fn odd_lengths(rng: &mut Rng, method: Method, lengths: &mut [u32], notes: &mut V
             wrap_sum(rng, lengths, place);
             notes.push("the lengths add up to more than 32 bits".to_string());
         }
-        9..=12 if method == Method::Sao => {
+        9..=12 if limited => {
             let others =
                 lengths.iter().map(|&l| u64::from(l)).sum::<u64>() - u64::from(lengths[place]);
             let sum = rng.pick(&[LIMIT - 1, LIMIT, LIMIT, LIMIT + 1]);
@@ -252,7 +255,7 @@ impl<'a> Maker<'a> {
             5 => self.damage(
                 &mut block,
                 2,
-                &[4, 7, 8, 0x0C, 0x80, 255],
+                &[4, 8, 0x0C, 0x0F, 0x10, 0x18, 0x80, 255],
                 "the order's flags",
             ),
             6 => self.damage(&mut block, 3, &[0, 100, 101, 255], "the order's count"),
@@ -483,7 +486,7 @@ impl<'a> Maker<'a> {
     fn other_reply(&mut self) -> (Given, String) {
         let reply = match self.rng.below(5) {
             0 => profile_reply(self.drive.profile),
-            1 => disc_reply(self.drive.disc),
+            1 => disc_reply(self.drive.disc, self.drive.erasable),
             2 => track_reply(self.drive.track_fields()),
             3 => Reply::good(&[]),
             _ => {
@@ -557,7 +560,7 @@ impl<'a> Maker<'a> {
     }
 
     fn odd_disc(&mut self) -> (Reply, String) {
-        let mut reply = disc_reply(self.rng.below(4) as u8);
+        let mut reply = disc_reply(self.rng.below(4) as u8, self.rng.chance(50));
         if self.rng.chance(40) {
             reply.data[2] |= 1 << self.rng.below(8);
         }
@@ -659,36 +662,56 @@ fn reply_given((reply, note): (Reply, String)) -> (Given, String) {
 
 /// A drive that suits the order in most cases.
 fn drive(rng: &mut Rng, order: &Order, notes: &mut Vec<String>) -> Drive {
-    let profile = if rng.chance(97) {
-        rng.pick(&[9, 10])
+    let profile = profile(rng, order);
+    let disc = disc(rng, order);
+    let erasable = rng.chance(if order.flags.erase { 95 } else { 50 });
+    let erased = if rng.chance(94) {
+        0
     } else {
-        rng.pick(&[8, 11, 0x1A])
-    };
-    let suits = if order.method == Method::Tao {
-        [0, 1]
-    } else {
-        [0, 0]
-    };
-    let disc = if rng.chance(95) {
-        rng.pick(&suits)
-    } else {
-        rng.below(4) as u8
+        rng.between(1, 3) as u8
     };
     let blocks = order.blocks_from(0).0;
     let free = free_blocks(rng, blocks);
     let next_writable = first_address(rng, order.method, blocks);
     let gap = rng.pick(&[0, 0, 0, 2, 150, 152]);
+    let mark = if erasable { " erasable" } else { "" };
     notes.push(format!(
-        "disc {disc}, address {next_writable}, free {free}, {blocks} blocks"
+        "profile {profile:04X}h, disc {disc}{mark}, address {next_writable}, free {free}, \
+         {blocks} blocks"
     ));
     Drive {
         profile,
         disc,
+        erasable,
+        erased,
         next_writable,
         free,
         gap,
         noisy: rng.chance(40),
         polling: polling(rng, order),
+    }
+}
+
+/// Mostly CD-RW where a disc is to be erased.
+fn profile(rng: &mut Rng, order: &Order) -> u16 {
+    if !rng.chance(97) {
+        rng.pick(&[8, 11, 0x1A])
+    } else if order.flags.erase && rng.chance(85) {
+        10
+    } else {
+        rng.pick(&[9, 10])
+    }
+}
+
+/// Mostly a used disc where it is to be erased.
+fn disc(rng: &mut Rng, order: &Order) -> u8 {
+    if rng.chance(5) {
+        return rng.below(4) as u8;
+    }
+    match order.method {
+        _ if order.flags.erase => rng.pick(&[0, 1, 1, 2, 2]),
+        Method::Tao => rng.pick(&[0, 1]),
+        Method::Sao => 0,
     }
 }
 
@@ -743,6 +766,9 @@ fn odd_place(rng: &mut Rng, order: &Order) -> Odd {
     if order.flags.immed && rng.chance(60) {
         return odd_poll(rng, order);
     }
+    if order.flags.erase && rng.chance(30) {
+        return odd_erasing(rng);
+    }
     let code = match rng.below(100) {
         0..=11 => GET_CONFIGURATION,
         12..=23 => READ_DISC_INFORMATION,
@@ -767,12 +793,25 @@ fn odd_place(rng: &mut Rng, order: &Order) -> Odd {
     }
 }
 
+/// At the A1h or one of the replies around it.
+fn odd_erasing(rng: &mut Rng) -> Odd {
+    let (code, nth) = rng.pick(&[
+        (READ_DISC_INFORMATION, 1),
+        (BLANK, 1),
+        (READ_DISC_INFORMATION, 2),
+        (READ_DISC_INFORMATION, 2),
+        (READ_TRACK_INFORMATION, 1),
+    ]);
+    Odd { code, nth }
+}
+
 /// At one of the polls, mostly of those that surely come.
 fn odd_poll(rng: &mut Rng, order: &Order) -> Odd {
-    let pollings = match order.method {
+    let closings = match order.method {
         Method::Tao => 2 * order.tracks.len() as u64 + 1,
         Method::Sao => 1,
     };
+    let pollings = closings + u64::from(order.flags.erase);
     let most = rng.pick(&[pollings, pollings, 2 * pollings]);
     Odd {
         code: rng.pick(&[TEST_UNIT_READY, REQUEST_SENSE]),
@@ -806,6 +845,32 @@ mod tests {
         }
     }
 
+    /// What an erasing did in a job: whether an A1h was given, and whether the
+    /// job then was done.
+    fn erasing(bytes: &[u8]) -> (bool, bool) {
+        let mut blocks = bytes.chunks(BLOCK);
+        let (mut job, mut answer) = Job::take(blocks.next().unwrap_or(&[]));
+        let mut erased = false;
+        while let Answer::Command(command) = answer {
+            erased |= command.bytes[0] == BLANK;
+            let Some(Ok(reply)) = blocks.next().map(read_reply) else {
+                return (erased, false);
+            };
+            answer = job.give(&reply);
+        }
+        (erased, erased && answer == Answer::Done)
+    }
+
+    /// Many random jobs erase a disc, and many of these end as done.
+    #[test]
+    fn erasings_occur() {
+        let mut rng = Rng::new(8);
+        let made: Vec<(bool, bool)> = (0..1_500).map(|_| erasing(&job(&mut rng).bytes)).collect();
+        let erased = made.iter().filter(|(erased, _)| *erased).count();
+        let done = made.iter().filter(|(_, done)| *done).count();
+        assert!(erased > 300 && done > 100, "{erased} {done}");
+    }
+
     #[test]
     fn the_same_seed_gives_the_same_job() {
         let bytes = |seed| job(&mut Rng::new(seed)).bytes;
@@ -824,7 +889,7 @@ mod tests {
             *endings.entry(ending).or_default() += 1;
             deep += u32::from(count > 10);
         }
-        for number in [0, 1, 2, 3, 4, 5, 6, 7, 8, 9, 10, 12] {
+        for number in [0, 1, 2, 3, 4, 5, 6, 7, 8, 9, 10, 12, 16] {
             assert!(endings.contains_key(&Some(number)), "{number}: {endings:?}");
         }
         assert!(endings.contains_key(&None));

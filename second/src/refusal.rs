@@ -41,6 +41,8 @@ pub enum Refusal {
     NoSheet,
     /// 15: a number given to a conversion or command maker is out of range.
     Range,
+    /// 16: a used disc is to be erased and is not erasable.
+    NotErasable,
     /// 17: a title not allowed or without its zero, or not 1 to 99 titles.
     Title,
     /// 18: packs that no titles give.
@@ -68,6 +70,7 @@ impl Refusal {
             Refusal::Ended => 13,
             Refusal::NoSheet => 14,
             Refusal::Range => 15,
+            Refusal::NotErasable => 16,
             Refusal::Title => 17,
             Refusal::NoPacks => 18,
             Refusal::PackCount => 19,

@@ -18,6 +18,13 @@ pub enum Disc {
     Other,
 }
 
+/// What a 51h reply says.
+#[derive(Clone, Copy, PartialEq, Eq, Debug)]
+pub struct DiscInformation {
+    pub status: Disc,
+    pub erasable: bool,
+}
+
 #[derive(Clone, Copy, PartialEq, Eq, Debug)]
 pub struct TrackInformation {
     pub damage: bool,
@@ -48,17 +55,19 @@ pub fn profile(data: &[u8]) -> Result<u16, Refusal> {
 }
 
 /// 51h: at least 34 bytes, length field (0, 1) at least 32, and of the type
-/// with bits 7 to 5 of byte 2 zero; else 4.
-pub fn disc(data: &[u8]) -> Result<Disc, Refusal> {
+/// with bits 7 to 5 of byte 2 zero; else 4. Erasable is bit 4 of byte 2.
+pub fn disc(data: &[u8]) -> Result<DiscInformation, Refusal> {
     require(data.len() >= 34, Refusal::Reply)?;
     require(word(data, 0) >= 32, Refusal::Reply)?;
     require(data[2] >> 5 == 0, Refusal::Reply)?;
-    Ok(match data[2] & 3 {
+    let status = match data[2] & 3 {
         0 => Disc::Blank,
         1 => Disc::Appendable,
         2 => Disc::Finalized,
         _ => Disc::Other,
-    })
+    };
+    let erasable = data[2] & (1 << 4) != 0;
+    Ok(DiscInformation { status, erasable })
 }
 
 /// 52h: at least 28 bytes, length field (0, 1) at least 26; else 4.
@@ -190,17 +199,34 @@ mod tests {
 
     #[test]
     fn discs() {
+        let read = |status, erasable| Ok(DiscInformation { status, erasable });
         let mut data = [0; 34];
         data[1] = 32;
         data[2] = 0x1D;
-        assert_eq!(disc(&data), Ok(Disc::Appendable));
+        assert_eq!(disc(&data), read(Disc::Appendable, true));
         assert_eq!(disc(&data[..33]), Err(Refusal::Reply));
         data[1] = 31;
         assert_eq!(disc(&data), Err(Refusal::Reply));
         data[0] = 1;
-        assert_eq!(disc(&data), Ok(Disc::Appendable));
+        assert_eq!(disc(&data), read(Disc::Appendable, true));
         data[2] = 0x20;
         assert_eq!(disc(&data), Err(Refusal::Reply));
+    }
+
+    /// Byte 2: bits 1 and 0 the status, bit 4 Erasable, bits 7 to 5 zero.
+    #[test]
+    fn byte_2_of_a_disc() {
+        let mut data = [0xFF; 34];
+        for byte in 0..=255 {
+            data[2] = byte;
+            let Ok(read) = disc(&data) else {
+                assert!(byte >= 32);
+                continue;
+            };
+            let statuses = [Disc::Blank, Disc::Appendable, Disc::Finalized, Disc::Other];
+            assert_eq!(read.status, statuses[usize::from(byte % 4)]);
+            assert!(byte < 32 && read.erasable == (byte >= 16));
+        }
     }
 
     #[test]

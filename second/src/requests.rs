@@ -8,9 +8,10 @@ use crate::units::{Flags, Kind, Method, Order, Track, MOST_TRACKS};
 const LIMIT: u32 = 449_849;
 const KINDS: [Kind; 2] = [Kind::Audio, Kind::Data];
 const METHODS: [Method; 2] = [Method::Tao, Method::Sao];
-/// Flag bytes with Immed, and flag bytes that no order has.
-const FLAG_BYTES: [u8; 13] = [
-    4, 5, 6, 7, 8, 0x0C, 0x0F, 0x10, 0x14, 0x40, 0x80, 0x84, 0xFF,
+/// Flag bytes with Immed or erase, and flag bytes that no order has.
+const FLAG_BYTES: [u8; 22] = [
+    4, 5, 6, 7, 8, 9, 10, 11, 12, 13, 14, 15, 0x10, 0x11, 0x14, 0x18, 0x1C, 0x20, 0x40, 0x80, 0x88,
+    0xFF,
 ];
 
 /// A random request line.
@@ -79,6 +80,7 @@ fn any_order(rng: &mut Rng) -> Order {
         keep: rng.chance(30),
         protect: rng.chance(50),
         immed: rng.chance(50),
+        erase: rng.chance(50),
     };
     let kind = rng.pick(&KINDS);
     let count = any_count(rng);
@@ -248,7 +250,20 @@ fn changed_block(rng: &mut Rng, mut block: [u8; BLOCK], used: usize) -> Vec<u8> 
     let head = rng.below(4) as usize;
     let place = rng.pick(&[anywhere, in_use, in_use, head, head, 509, used.min(511)]);
     let value = rng.byte();
-    let value = rng.pick(&[value, value, 0, 1, 2, 3, 4, 7, 8, 255, block[place] ^ 1]);
+    let value = rng.pick(&[
+        value,
+        value,
+        0,
+        1,
+        2,
+        3,
+        4,
+        8,
+        15,
+        16,
+        255,
+        block[place] ^ 1,
+    ]);
     match rng.below(12) {
         0..=3 => block.to_vec(),
         4..=8 => {
@@ -345,6 +360,10 @@ fn random_command(rng: &mut Rng) -> String {
     if rng.chance(15) {
         let name = rng.pick(&["test-unit-ready", "request-sense"]);
         return format!("{name} {}", lent(rng, 6));
+    }
+    if rng.chance(10) {
+        let lent = lent(rng, 12);
+        return format!("blank {lent} {}", rng.below(2));
     }
     let lent = lent(rng, 10);
     match rng.below(10) {
@@ -456,6 +475,7 @@ fn simple_order(method: Method, flags: u8, count: usize, length: u32) -> Order {
             keep: flags & 1 != 0,
             protect: flags & 2 != 0,
             immed: flags & 4 != 0,
+            erase: flags & 8 != 0,
         },
         tracks: vec![
             Track {
@@ -469,7 +489,7 @@ fn simple_order(method: Method, flags: u8, count: usize, length: u32) -> Order {
 
 fn order_corners(list: &mut Vec<String>) {
     for method in METHODS {
-        for flags in 0..8 {
+        for flags in 0..16 {
             let order = simple_order(method, flags, 2, 300);
             list.push(format!("order-write 512 {}", order_words(&order)));
             list.push(format!("order-write 511 {}", order_words(&order)));
@@ -490,6 +510,7 @@ fn order_corners(list: &mut Vec<String>) {
             keep: true,
             protect: true,
             immed: true,
+            erase: true,
         },
         tracks: [(Kind::Data, 300), (Kind::Audio, u32::MAX), (Kind::Data, 0)]
             .map(|(kind, length)| Track { kind, length })
@@ -561,7 +582,7 @@ fn block_read_corners(list: &mut Vec<String>, name: &str, block: [u8; BLOCK]) {
 fn page_corners(list: &mut Vec<String>) {
     for kind in 0..2 {
         for method in METHODS {
-            for flags in 0..8 {
+            for flags in 0..16 {
                 for count in [0, 1, 99, 100] {
                     let words = order_words(&simple_order(method, flags, count, 0));
                     for lent in [0, 59, 60, 61] {
@@ -581,6 +602,17 @@ fn sheet_corners(list: &mut Vec<String>) {
         "sheet 40 2 4 2 0 300 0 450",
         "sheet 40 2 6 2 1 300 1 450",
         "sheet 40 2 5 2 0 300 0 450",
+        "sheet 40 2 8 2 0 300 0 450",
+        "sheet 40 2 10 2 1 300 1 450",
+        "sheet 40 2 12 2 0 300 0 450",
+        "sheet 40 2 14 2 1 300 1 450",
+        "sheet 40 2 9 2 0 300 0 450",
+        "sheet 40 2 15 2 0 300 0 450",
+        "sheet 39 2 8 2 0 300 0 450",
+        "sheet 32 2 8 1 1 299",
+        "sheet 32 2 8 1 1 449849",
+        "sheet 32 2 8 1 1 449850",
+        "sheet 40 1 8 2 0 300 0 450",
         "sheet 39 2 4 2 0 300 0 450",
         "sheet 40 1 4 2 0 300 0 450",
         "sheet 41 2 0 2 0 300 0 450",
@@ -708,7 +740,7 @@ fn command_corners(list: &mut Vec<String>) {
     list.extend((0..=1_000).map(|length| format!("send-cue-sheet 10 {length}")));
 }
 
-/// The commands that close, without and with Immed, and the polls.
+/// The commands that close or erase, without and with Immed, and the polls.
 fn closing_corners(list: &mut Vec<String>) {
     for lent in [0, 1, 9, 10, 11, 20] {
         for immed in 0..2 {
@@ -721,6 +753,10 @@ fn closing_corners(list: &mut Vec<String>) {
                 }
             }
         }
+    }
+    for lent in [0, 1, 2, 6, 10, 11, 12, 13, 24] {
+        list.push(format!("blank {lent} 0"));
+        list.push(format!("blank {lent} 1"));
     }
     for lent in [0, 1, 5, 6, 7, 10, 18] {
         list.push(format!("test-unit-ready {lent}"));
@@ -738,7 +774,13 @@ fn bad_corners(list: &mut Vec<String>) {
         "order-read",
         "order-read 0",
         "sheet",
-        "order-write 512 1 8 1 0 300",
+        "order-write 512 1 16 1 0 300",
+        "order-write 512 1 24 1 0 300",
+        "page 60 0 1 16 1 0 300",
+        "sheet 32 2 16 1 0 300",
+        "blank 12",
+        "blank 12 2",
+        "blank 12 0 0",
         "synchronize-cache 10",
         "synchronize-cache 10 2",
         "close-track-session 10 1 255",
@@ -814,6 +856,8 @@ mod tests {
             ("close-track-session", "refused 15"),
             ("synchronize-cache", "ok"),
             ("synchronize-cache", "refused 11"),
+            ("blank", "ok"),
+            ("blank", "refused 11"),
             ("test-unit-ready", "ok"),
             ("test-unit-ready", "refused 11"),
             ("request-sense", "ok"),
@@ -834,6 +878,6 @@ mod tests {
             .iter()
             .filter(|request| answer(request) == "bad request")
             .count();
-        assert_eq!(bad, 15);
+        assert_eq!(bad, 21);
     }
 }

@@ -2,9 +2,9 @@
 //!
 //! ```text
 //! # a comment
-//! order tao keep protect immed data 300 data 317
+//! order tao keep protect immed erase data 300 data 317
 //! good profile 0009
-//! good disc blank            (or appendable, finalized, other)
+//! good disc blank            (or appendable, finalized, other; then: erasable)
 //! good track nwa 0 free 300000   (then: damaged, no-address)
 //! good progress 8000         (18 bytes of sense data, 0000 without progress)
 //! 20 x good
@@ -167,6 +167,7 @@ fn parse_flags<'a, 'b>(mut words: &'a [&'b str]) -> Parsed<(Flags, &'a [&'b str]
             "keep" => &mut flags.keep,
             "protect" => &mut flags.protect,
             "immed" => &mut flags.immed,
+            "erase" => &mut flags.erase,
             _ => break,
         };
         if *flag {
@@ -212,7 +213,8 @@ fn parse_reply(words: &[&str]) -> Parsed<Reply> {
     match words {
         ["good"] => Ok(Reply::good(&[])),
         ["good", "profile", profile] => parse_profile(profile),
-        ["good", "disc", status] => parse_disc(status),
+        ["good", "disc", status] => parse_disc(status, false),
+        ["good", "disc", status, "erasable"] => parse_disc(status, true),
         ["good", "track", "nwa", nwa, "free", free, marks @ ..] => parse_info(nwa, free, marks),
         ["good", "progress", progress] => parse_progress(progress),
         ["good", "raw", rest @ ..] => Ok(Reply::good(&hex_bytes(rest)?)),
@@ -244,9 +246,9 @@ fn parse_progress(word: &str) -> Parsed<Reply> {
     Ok(progress_reply(progress))
 }
 
-fn parse_disc(word: &str) -> Parsed<Reply> {
+fn parse_disc(word: &str, erasable: bool) -> Parsed<Reply> {
     match DISCS.iter().position(|disc| *disc == word) {
-        Some(status) => Ok(disc_reply(status as u8)),
+        Some(status) => Ok(disc_reply(status as u8, erasable)),
         None => Err(format!("`{word}` is none of {}", DISCS.join(", "))),
     }
 }
@@ -336,14 +338,16 @@ fn order_line(order: &Order) -> String {
         Method::Tao => "tao".to_string(),
         Method::Sao => "sao".to_string(),
     });
-    if order.flags.keep {
-        words.push("keep".to_string());
-    }
-    if order.flags.protect {
-        words.push("protect".to_string());
-    }
-    if order.flags.immed {
-        words.push("immed".to_string());
+    let flags = &order.flags;
+    for (set, word) in [
+        (flags.keep, "keep"),
+        (flags.protect, "protect"),
+        (flags.immed, "immed"),
+        (flags.erase, "erase"),
+    ] {
+        if set {
+            words.push(word.to_string());
+        }
     }
     for track in &order.tracks {
         words.push(match track.kind {
@@ -380,9 +384,10 @@ fn named_line(reply: &Reply) -> Option<(String, Reply)> {
             ))
         }
         (Status::Good, 34) => {
-            let status = data[2] & 3;
-            let line = format!("good disc {}", DISCS[usize::from(status)]);
-            Some((line, disc_reply(status)))
+            let (status, erasable) = (data[2] & 3, data[2] & 16 != 0);
+            let word = if erasable { " erasable" } else { "" };
+            let line = format!("good disc {}{word}", DISCS[usize::from(status)]);
+            Some((line, disc_reply(status, erasable)))
         }
         (Status::Good, 18) => {
             let progress = u16::from_be_bytes([data[16], data[17]]);
@@ -453,13 +458,18 @@ failed raw F0 00 02
 order sao audio 300 audio 450
 order sao immed audio 300
 order tao keep protect immed data 300
+order tao keep protect immed erase data 300
+order sao erase audio 300
+good disc blank erasable
+good disc finalized erasable
+good disc other
 block 02 00 00
 ";
 
     #[test]
     fn text_to_blocks_and_back() {
         let bytes = blocks_of(SAMPLE).unwrap();
-        assert_eq!(bytes.len(), 39 * BLOCK + 3);
+        assert_eq!(bytes.len(), 44 * BLOCK + 3);
         assert_eq!(text_of(&bytes), SAMPLE);
     }
 
@@ -498,6 +508,10 @@ block 02 00 00
         assert!(error("order tao data 4294967296\n").contains("4294967296"));
         assert!(error("0 x good\n").contains("repeat count"));
         assert!(error("good disc wet\n").contains("`wet`"));
+        assert!(error("good disc wet erasable\n").contains("`wet`"));
+        assert!(error("good disc blank erased\n").contains("no line of a job"));
+        assert!(error("good disc erasable\n").contains("`erasable`"));
+        assert!(error("order tao erase immed erase data 300\n").contains("`erase` stands twice"));
         assert!(error("good profile 9\n").contains("four hex digits"));
         assert!(error("failed 10 00 00\n").contains("00 to 0F"));
         assert!(error("failed 1 00 00\n").contains("two hex digits"));

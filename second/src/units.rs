@@ -80,29 +80,35 @@ impl Method {
     }
 }
 
-/// Bit 0 keep appendable, bit 1 buffer underrun protection, bit 2 Immed.
+/// Bit 0 keep appendable, bit 1 buffer underrun protection, bit 2 Immed, bit 3
+/// erase.
 #[derive(Clone, Copy, Default, PartialEq, Eq, Debug)]
 pub struct Flags {
     pub keep: bool,
     pub protect: bool,
-    /// 35h and 5Bh return at once, and polling follows (document 02, Ask 1).
+    /// 35h, 5Bh and A1h return at once, and polling follows (document 02, Ask 1).
     pub immed: bool,
+    /// A used disc is erased before recording (document 02, Ask 2).
+    pub erase: bool,
 }
 
 impl Flags {
     pub fn from_byte(byte: u8) -> Option<Flags> {
-        if byte > 7 {
+        if byte > 15 {
             return None;
         }
         Some(Flags {
             keep: byte & 1 != 0,
             protect: byte & 2 != 0,
             immed: byte & 4 != 0,
+            erase: byte & 8 != 0,
         })
     }
 
     pub fn byte(self) -> u8 {
-        u8::from(self.keep) + 2 * u8::from(self.protect) + 4 * u8::from(self.immed)
+        let bits = [self.keep, self.protect, self.immed, self.erase];
+        let values = bits.into_iter().zip([1, 2, 4, 8]);
+        values.map(|(bit, value)| value * u8::from(bit)).sum()
     }
 }
 

@@ -37,7 +37,8 @@ fn busy_words(job: &Job) -> String {
     let of_track = |name: &str, index: usize| format!("{name}, track {} of {tracks}", index + 1);
     match job.step() {
         Step::GetConfiguration => "GET CONFIGURATION".to_string(),
-        Step::ReadDiscInformation => "READ DISC INFORMATION".to_string(),
+        Step::ReadDiscInformation | Step::ReadDiscAgain => "READ DISC INFORMATION".to_string(),
+        Step::Blank => "BLANK".to_string(),
         Step::ReadTrackInformation(index) => of_track("READ TRACK INFORMATION", index),
         Step::ModeSelect(index) => of_track("MODE SELECT", index),
         Step::SendCueSheet => "SEND CUE SHEET".to_string(),
@@ -89,6 +90,7 @@ fn stop_words(refusal: Refusal) -> String {
         Refusal::Ended => "job already ended",
         Refusal::NoSheet => "no cue sheet",
         Refusal::Range => "number out of range",
+        Refusal::NotErasable => "disc cannot be erased",
         // A job gives none of these.
         Refusal::Title | Refusal::NoPacks | Refusal::PackCount => "stop names or packs",
     };
@@ -183,6 +185,33 @@ mod tests {
             let count = format!(", commands given: {count}");
             assert!(last.ends_with(&count), "{}: {last}", corner.name);
         }
+    }
+
+    #[test]
+    fn an_erasing() {
+        let open = "good profile 000A\ngood disc finalized erasable\n";
+        let shown = lines(&format!(
+            "order tao immed erase data 300\n{open}good\nbusy\ngood progress 4000\n"
+        ));
+        let expected = [
+            "idle",
+            "busy: GET CONFIGURATION",
+            "busy: READ DISC INFORMATION",
+            "busy: BLANK",
+            "busy: TEST UNIT READY, 0.0 %",
+            "busy: REQUEST SENSE, 0.0 %",
+            "busy: TEST UNIT READY, 25.0 %",
+            "waiting, commands given: 6",
+        ];
+        assert_eq!(shown, expected);
+        let shown = lines(&format!("order sao erase data 300\n{open}busy\ngood\n"));
+        assert_eq!(
+            shown[3..6],
+            ["busy: BLANK", "busy: BLANK", "busy: READ DISC INFORMATION"]
+        );
+        let refused = lines("order sao erase data 300\ngood profile 0009\ngood disc finalized\n");
+        let stop = "stopped: 16, disc cannot be erased, commands given: 2";
+        assert_eq!(refused.last().unwrap(), stop);
     }
 
     #[test]

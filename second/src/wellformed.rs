@@ -8,11 +8,11 @@ pub fn profile_reply(profile: u16) -> Reply {
     Reply::good(&[0, 0, 0, 4, 0, 0, high, low])
 }
 
-/// A good 51h reply: 34 bytes, length field 32, status 0 to 3.
-pub fn disc_reply(status: u8) -> Reply {
+/// A good 51h reply: 34 bytes, length field 32, status 0 to 3, Erasable.
+pub fn disc_reply(status: u8, erasable: bool) -> Reply {
     let mut data = [0; 34];
     data[1] = 32;
-    data[2] = status & 3;
+    data[2] = (status & 3) + (u8::from(erasable) << 4);
     Reply::good(&data)
 }
 

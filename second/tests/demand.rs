@@ -1,10 +1,14 @@
 //! Demand 3 of the order for work, watched from outside over random jobs: the
 //! recorded blocks are a beginning of the ordered ones, no address takes two
 //! blocks, done means recorded and closed, every polling ended, and the count
-//! without polls is that of document 01.
+//! without polls is that of document 01, with 2 more for an erasing. No disc is
+//! erased for an order known to be bad.
 
 use second::blocks::{read_order, read_reply, Reply, Status, BLOCK};
-use second::commands::{CLOSE_TRACK_SESSION, REQUEST_SENSE, SYNCHRONIZE_CACHE, TEST_UNIT_READY};
+use second::commands::{
+    BLANK, CLOSE_TRACK_SESSION, GET_CONFIGURATION, READ_DISC_INFORMATION, REQUEST_SENSE,
+    SYNCHRONIZE_CACHE, TEST_UNIT_READY, WRITE,
+};
 use second::job::{Answer, Command, Job};
 use second::rng::Rng;
 use second::units::{Method, Order};
@@ -23,6 +27,10 @@ struct Watch {
     /// Whether a polling goes on, and whether its latest 00h was good.
     polling: bool,
     ready: bool,
+    /// The profile, byte 2 of each good 51h, and how often A1h was answered good.
+    profile: [u8; 2],
+    discs: Vec<u8>,
+    erased: usize,
 }
 
 impl Watch {
@@ -30,6 +38,15 @@ impl Watch {
         let good = reply.status == Status::Good;
         assert_eq!(self.polling, is_poll(command), "a poll out of place");
         match command.bytes[0] {
+            BLANK => self.may_erase(order),
+            WRITE => self.may_write(order),
+            _ => {}
+        }
+        match command.bytes[0] {
+            GET_CONFIGURATION if good && reply.data.len() >= 8 => {
+                self.profile.copy_from_slice(&reply.data[6..8]);
+            }
+            READ_DISC_INFORMATION if good && reply.data.len() > 2 => self.discs.push(reply.data[2]),
             TEST_UNIT_READY => self.ready = good,
             REQUEST_SENSE if good && self.ready && progress(&reply.data) == Some(0) => {
                 self.polling = false;
@@ -39,9 +56,37 @@ impl Watch {
         }
     }
 
+    /// An A1h is given: the flag is set, the disc is a used CD-RW that says
+    /// Erasable, nothing is erased or recorded yet, and the order is fit.
+    fn may_erase(&self, order: &Order) {
+        assert!(order.flags.erase && self.profile == [0, 0x0A]);
+        assert!(matches!(
+            self.discs[..],
+            [0x11 | 0x12 | 0x15 | 0x16 | 0x19 | 0x1A | 0x1D | 0x1E]
+        ));
+        assert!(self.erased == 0 && self.end.is_none());
+        let kinds = order.tracks.windows(2).all(|w| w[0].kind == w[1].kind);
+        assert!(order.method == Method::Tao || (kinds && !order.flags.keep));
+        assert!(order.tracks.iter().all(|track| track.length >= 300));
+        assert!(order.blocks_from(0).0 <= 449_849);
+    }
+
+    /// A WRITE is given: with the flag the latest 51h said blank, and a disc
+    /// that was used is erased.
+    fn may_write(&self, order: &Order) {
+        assert_eq!(self.discs.len(), 1 + self.erased);
+        if order.flags.erase {
+            let statuses: Vec<u8> = self.discs.iter().map(|byte| byte % 4).collect();
+            assert!(matches!(statuses[..], [0] | [1 | 2, 0]));
+        } else {
+            assert_eq!(self.erased, 0);
+        }
+    }
+
     fn good(&mut self, order: &Order, command: &Command) {
         let bytes = command.bytes;
         let closing = match (bytes[0], bytes[2]) {
+            (BLANK, _) => &mut self.erased,
             (SYNCHRONIZE_CACHE, _) => &mut self.synchronized,
             (CLOSE_TRACK_SESSION, 1) => &mut self.tracks_closed,
             (CLOSE_TRACK_SESSION, _) => &mut self.sessions_closed,
@@ -49,8 +94,12 @@ impl Watch {
         };
         *closing += 1;
         self.polling = order.flags.immed;
-        let bit = if bytes[0] == SYNCHRONIZE_CACHE { 2 } else { 1 };
-        assert_eq!(bytes[1], if order.flags.immed { bit } else { 0 });
+        let (plain, immed) = match bytes[0] {
+            BLANK => (0x01, 0x11),
+            SYNCHRONIZE_CACHE => (0, 2),
+            _ => (0, 1),
+        };
+        assert_eq!(bytes[1], if order.flags.immed { immed } else { plain });
     }
 
     fn recorded(&mut self, order: &Order, command: &Command) {
@@ -145,7 +194,8 @@ fn follow(bytes: &[u8]) -> bool {
     assert_eq!(done, watch.recorded_and_closed(&order));
     assert!(order.flags.immed || polls == 0);
     if done {
-        assert_eq!(job.count() - polls, all_good_count(&order) + busy);
+        let erasing = 2 * watch.erased as u64;
+        assert_eq!(job.count() - polls, all_good_count(&order) + erasing + busy);
     }
     done
 }

@@ -18,7 +18,7 @@ fn jobs() -> Vec<PathBuf> {
 #[test]
 fn examples_give_what_is_expected() {
     let jobs = jobs();
-    assert!(jobs.len() >= 8);
+    assert!(jobs.len() >= 10);
     for path in jobs {
         let text = fs::read_to_string(&path).expect("a job");
         let blocks = blocks_of(&text).expect("a valid job");
