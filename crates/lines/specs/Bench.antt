@@ -9,7 +9,7 @@ use Rattle.mmc.specs.Order.{noOrder}
 use Rattle.recorder.specs.Answers.{because, drive-failed, issue, done, stop, cdbOf}
 use Rattle.recorder.specs.Replies.{noSense}
 use Rattle.recorder.specs.Job.{commandOf, opening, idleRecorder, stateOf}
-use Rattle.recorder.specs.declared.script.Op.the-variants.{ReadTrackInformation, Write, CloseSession}
+use Rattle.recorder.specs.declared.script.Op.the-variants.{ReadTrackInformation, Write, CloseSession, Blank}
 use Rattle.recorder.specs.declared.job.Phase.the-variants.{Going}
 use Rattle.recorder.specs.declared.job.Poll.{Poll}
 use Rattle.recorder.specs.declared.job.Poll.the-variants.{Off, Ready, Sense}
@@ -34,7 +34,7 @@ pub record ExampleLines : Type 0 where
 -- the line of a job that closes the session, with its polling and the progress that was seen last
 abbrev pub closing : Poll → ℕ → List ℕ
 closing p n =
-    shownLine (stateOf noOrder (record { place = CloseSession; poll = p; seen = record { profile = 0; status = 0; at = record { 0 = 0 }; ready = false; progress = n } }) Going 30)
+    shownLine (stateOf noOrder (record { place = CloseSession; poll = p; seen = record { profile = 0; status = 0; at = record { 0 = 0 }; erased = false; ready = false; progress = n } }) Going 30)
 
 pub record ExampleShown : Type 0 where
   -- before any order, and the first command
@@ -49,6 +49,9 @@ pub record ExampleShown : Type 0 where
   pub half : closing Ready 0x8000 ≡ codes "busy: TEST UNIT READY, 50.0 %\n"
   pub nearly : closing Sense 0xFFFF ≡ codes "busy: REQUEST SENSE, 99.9 %\n"
   pub unpolled : closing Off 0x8000 ≡ codes "busy: CLOSE TRACK SESSION, session\n"
+  -- an erasing, and a disc that can't be erased
+  pub erased : busyLine Blank 2 0 0 ≡ codes "busy: BLANK\n"
+  pub not-erasable : stoppedLine 16 noSense 2 ≡ codes "stopped: 16, disc cannot be erased, commands given: 2\n"
   -- the ends
   pub ended : finishedLine 26 ≡ codes "finished, commands given: 26\n"
   pub awaited : waitingShown 0 ≡ codes "waiting, commands given: 0\n"

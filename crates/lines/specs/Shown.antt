@@ -8,7 +8,7 @@ use Rattle.recorder.specs.Places.{pieceOf}
 use Rattle.recorder.specs.Job.{dueIn}
 use Rattle.recorder.specs.declared.replies.Sense.{Sense}
 use Rattle.recorder.specs.declared.script.Op.{Op}
-use Rattle.recorder.specs.declared.script.Op.the-variants.{GetConfiguration, ReadDiscInformation, ReadTrackInformation, ModeSelect, SendCueSheet, Write, SynchronizeCache, CloseTrack, CloseSession, TestUnitReady, RequestSense}
+use Rattle.recorder.specs.declared.script.Op.the-variants.{GetConfiguration, ReadDiscInformation, ReadTrackInformation, ModeSelect, SendCueSheet, Write, SynchronizeCache, CloseTrack, CloseSession, Blank, TestUnitReady, RequestSense}
 use Rattle.recorder.specs.declared.job.Recorder.{Recorder}
 use Rattle.panel.specs.Panel.{Shown, idle, busy, finished, stopped, shownOf, senseIn}
 use Rattle.lines.specs.Text.{codes, parted, decimal}
@@ -51,6 +51,7 @@ commandText (Write t f c) n l p = codes "WRITE" ++ inPiece (t .0) n ++ howFar (f
 commandText (SynchronizeCache t) n l p = codes "SYNCHRONIZE CACHE" ++ ofTracks (t .0) n
 commandText (CloseTrack t) n l p = codes "CLOSE TRACK SESSION" ++ ofTracks (t .0) n
 commandText CloseSession n l p = codes "CLOSE TRACK SESSION, session"
+commandText Blank n l p = codes "BLANK"
 commandText TestUnitReady n l p = codes "TEST UNIT READY" ++ percent p
 commandText RequestSense n l p = codes "REQUEST SENSE" ++ percent p
 
@@ -91,6 +92,7 @@ words s =
     codes "job already ended" ∷
     codes "no cue sheet" ∷
     codes "number out of range" ∷
+    codes "disc cannot be erased" ∷
     []
 
 -- a number that is none of them is out of range too

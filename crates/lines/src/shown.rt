@@ -97,6 +97,7 @@ fn add_command(line: &mut [u8], at: usize, op: Op, tracks: u8, blocks: u32, prog
         Op::SynchronizeCache(t) => add_track(line, at, b"SYNCHRONIZE CACHE", t.0, tracks),
         Op::CloseTrack(t) => add_track(line, at, b"CLOSE TRACK SESSION", t.0, tracks),
         Op::CloseSession => add(line, at, b"CLOSE TRACK SESSION, session"),
+        Op::Blank => add(line, at, b"BLANK"),
         Op::TestUnitReady => add_percent(line, at, b"TEST UNIT READY", progress),
         Op::RequestSense => add_percent(line, at, b"REQUEST SENSE", progress),
     }
@@ -169,6 +170,7 @@ fn add_words(line: &mut [u8], at: usize, number: u8, sense: Sense) -> usize
         12 => add_triple(line, at, sense),
         13 => add(line, at, b"job already ended"),
         14 => add(line, at, b"no cue sheet"),
+        16 => add(line, at, b"disc cannot be erased"),
         _ => add(line, at, b"number out of range"),
     }
 }

@@ -31,12 +31,12 @@ past zero r m h = h
 past (suc k) r m h = omega (arith, past k r (m .0) h, m .1)
 
 -- 15, and a number that is none of the table's
-pub other : (r : ℕ) (s : Sense) → NoneTo 14 r → wordsOf r s ≡ codes "number out of range"
+pub other : (r : ℕ) (s : Sense) → NoneTo 14 r → (r ≡ 16 → ⊥) → wordsOf r s ≡ codes "number out of range"
 unfolding wordsOf
-other zero s m = refl
-other (suc r) s m = of (past 14 (suc r) m (omega arith)) (decLe 15 r)
+other zero s m n = refl
+other (suc r) s m n = of (past 14 (suc r) m (omega arith)) (decLe 16 r)
   where
-    of : 14 < suc r → Dec (15 ≤ r) → wordsOf (suc r) s ≡ codes "number out of range"
+    of : 14 < suc r → Dec (16 ≤ r) → wordsOf (suc r) s ≡ codes "number out of range"
     of l (yes p) = List·getD-eq-default (words s) (codes "number out of range") p
     of l (no q) = let e : r ≡ 14 = omega arith in rw e
 

@@ -42,11 +42,15 @@ returns-9 c = let a = c .before .before .add4 .ensures in rw (c .before .before 
 
 returns-10 : tie.Need-returns-10
 unfolding codes
-returns-10 c = let a = c .before .before .add-percent .ensures in rw (c .before .before .before .before .before .enum-told5 .given .1) (a .0, omega (arith, a .1))
+returns-10 c = let a = c .before .before .add5 .ensures in rw (c .before .before .before .before .before .enum-told5 .given .1) (a, omega (arith, a .ends))
 
 returns-11 : tie.Need-returns-11
 unfolding codes
-returns-11 c = let a = c .before .before .add-percent2 .ensures in rw (c .before .before .before .before .before .enum-told6 .given .1) (a .0, omega (arith, a .1))
+returns-11 c = let a = c .before .before .add-percent .ensures in rw (c .before .before .before .before .before .enum-told6 .given .1) (a .0, omega (arith, a .1))
+
+returns-12 : tie.Need-returns-12
+unfolding codes
+returns-12 c = let a = c .before .before .add-percent2 .ensures in rw (c .before .before .before .before .before .enum-told7 .given .1) (a .0, omega (arith, a .1))
 
 pub add-command-spec : {M : Type 1} → statement M
 add-command-spec =
@@ -85,6 +89,9 @@ add-command-spec =
     (λ c. search needs)
     (λ c κs. search needs)
     (λ c. search needs)
+    (λ c. search needs)
+    (λ c κs. search needs)
+    (λ c. search needs)
     returns
     (λ c. search needs)
     returns-2
@@ -105,4 +112,6 @@ add-command-spec =
     (λ c. search needs)
     returns-10
     (λ c. search needs)
-    returns-11)
+    returns-11
+    (λ c. search needs)
+    returns-12)

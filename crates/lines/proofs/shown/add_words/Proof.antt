@@ -63,10 +63,14 @@ unfolding codes wordsOf
 returns-14 c = let a = c .before .before .add13 .ensures in rw (c .before .before .before .before .before .match .keys14) (a, omega (arith, a .ends))
 
 returns-15 : tie.Need-returns-15
+unfolding codes wordsOf
+returns-15 c = let a = c .before .before .add14 .ensures in rw (c .before .before .before .before .before .match .keys15) (a, omega (arith, a .ends))
+
+returns-16 : tie.Need-returns-16
 unfolding codes
-returns-15 c =
-    let a = c .before .before .add14 .ensures in
-    rw (other (c .before .before .before .before .before .before .before .args .number) (c .before .before .before .before .before .before .before .args .sense) (c .before .before .before .before .before .match .rest)) (a, omega (arith, a .ends))
+returns-16 c =
+    let a = c .before .before .add15 .ensures in
+    rw (other (c .before .before .before .before .before .before .before .args .number) (c .before .before .before .before .before .before .before .args .sense) (c .before .before .before .before .before .match .rest .0) (c .before .before .before .before .before .match .rest .1)) (a, omega (arith, a .ends))
 
 pub add-words-spec : {M : Type 1} → statement M
 add-words-spec =
@@ -94,6 +98,8 @@ add-words-spec =
     (λ c κs. search needs)
     (λ c. search needs)
     (λ c κs. search needs)
+    (λ c κs. search needs)
+    (λ c. search needs)
     (λ c κs. search needs)
     (λ c. search needs)
     (λ c κs. search needs)
@@ -130,4 +136,6 @@ add-words-spec =
     (λ c. search needs)
     returns-14
     (λ c. search needs)
-    returns-15)
+    returns-15
+    (λ c. search needs)
+    returns-16)
