@@ -7,14 +7,22 @@ use Rattle.recorder.proofs.rules.judge_track.Tie as tie
 returns : tie.Need-returns
 returns c =
     let k = c .before .before in
-    simp (ne-eqb _ 1 (c .before .if1 .taken), c .first-of .ensures, k .it-fits .ensures, k .before .blocks-after .ensures, k .before .before .unusable-track .ensures)
+    simp (ne-eqb _ 1 (c .if1 .taken), c .before .first-of .ensures, k .it-fits .ensures, k .before .blocks-after .ensures, k .before .before .unusable-track .ensures)
 
 returns-2 : tie.Need-returns-2
 returns-2 c =
+    let f = c .before .before in
+    let k = f .before in
+    simp (eq-eqb _ 1 (c .before .if1 .left), c .if2 .taken, f .first-of .ensures, k .it-fits .ensures, k .before .blocks-after .ensures, k .before .before .unusable-track .ensures)
+
+returns-3 : tie.Need-returns-3
+returns-3 c =
     let s = c .before .before .before in
-    let k = s .before .before .before in
+    let e = s .before .before in
+    let k = e .before .before .before in
     simp (
-      eq-eqb _ 1 (s .before .before .if1 .left),
+      eq-eqb _ 1 (e .before .if1 .left),
+      e .if2 .left,
       c .first-of2 .ensures,
       s .before .other-profile .ensures,
       s .unsuitable-status .ensures,
@@ -36,9 +44,10 @@ judge-track-spec =
     (λ c κs. search needs)
     (λ c κs. search needs)
     returns
+    returns-2
     (λ c κs. search needs)
     (λ c κs. search needs)
     (λ c κs. search needs)
     (λ c κs. search needs)
     (λ c κs. search needs)
-    returns-2)
+    returns-3)
