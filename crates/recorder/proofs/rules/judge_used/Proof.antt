@@ -12,7 +12,7 @@ use Rattle.recorder.specs.declared.replies.DiscInformation.{DiscInformat
 use Rattle.recorder.specs.declared.rules.Verdict.{Verdict}
 use Rattle.recorder.specs.declared.rules.Verdict.the-variants as D
 use Rattle.recorder.specs.Answers.{because}
-use Rattle.recorder.specs.Rules.{otherProfile, mixedOrKept, shortTrack, overlong, used, notErasable, Judgement, onward, refused, Test, test, tested, judgementIn, erasingIf, refusedBy}
+use Rattle.recorder.specs.Rules.{otherProfile, mixedOrKept, shortTrack, overlong, used, notErasable, Judgement, onward, refused, Test, test, tested, judgementIn, erasingTests, erasingIf, refusedBy}
 use Rattle.recorder.proofs.Lists.{if-no, clash, Clear, passed-clear}
 use borrow.Author.Needs.{needs}
 use Rattle.recorder.proofs.rules.Verdict.{the-type}
@@ -55,17 +55,25 @@ judged c =
     let m = f .before .before in
     simp (c .first-of .ensures, m .before .other-profile .ensures, m .mixed-or-kept .ensures, f .before .all-long .ensures, f .over-long .ensures)
 
+-- 16, and what comes next where it passes
+abbrev last : tie.Start → List Test
+last t = test (notErasable (t .args .profile) (t .args .d)) 16 ∷ []
+
+abbrev due : tie.Start → List Op
+due t = erasingIf (used (t .args .d .status))
+
 returns : tie.Need-returns
 returns c =
-    let a = start (c .before) .args in
-    refused-first _ (early (a .o) (a .profile) (a .d)) (test (notErasable (a .profile) (a .d)) 16 ∷ []) (erasingIf (used (a .d .status))) (not-onward _ (c .match .keys2)) (judged (c .before))
+    let f = c .before in
+    let a = start f .args in
+    refused-first _ (early (a .o) (a .profile) (a .d)) (last (start f)) (due (start f)) (not-onward (f .first-of .result) (c .match .keys2)) (judged f)
 
 -- where 5 to 10 pass, 16 is left
-left-16 : (c : tie.After-enum-told) → tested (early (start (c .before .before) .args .o) (start (c .before .before) .args .profile) (start (c .before .before) .args .d) ++ (test (notErasable (start (c .before .before) .args .profile) (start (c .before .before) .args .d)) 16 ∷ [])) (erasingIf (used (start (c .before .before) .args .d .status))) ≡ tested (test (notErasable (start (c .before .before) .args .profile) (start (c .before .before) .args .d)) 16 ∷ []) (erasingIf (used (start (c .before .before) .args .d .status)))
+left-16 : (c : tie.After-enum-told) → tested (erasingTests (start (c .before .before) .args .o) (start (c .before .before) .args .profile) (start (c .before .before) .args .d)) (due (start (c .before .before))) ≡ tested (last (start (c .before .before))) (due (start (c .before .before)))
 left-16 c =
     let f = c .before .before in
     let ts = early (start f .args .o) (start f .args .profile) (start f .args .d) in
-    passed-first ts _ _ (passed-clear ts [] (ap refusedBy (sym (judged f) ∙ ap judgementIn (c .enum-told .given .1))))
+    passed-first ts (last (start f)) (due (start f)) (passed-clear ts [] (ap refusedBy (sym (judged f) ∙ ap judgementIn (c .enum-told .given .1))))
 
 returns-2 : tie.Need-returns-2
 returns-2 c = rw (left-16 (c .before .before), sym (c .before .not-erasable .ensures) ∙ c .if1 .taken)
