@@ -1,8 +1,10 @@
 // What is seen in the replies to the commands given so far.
 ghost use mathlib.Core.Path.{_≡_};
+ghost use mathlib.Core.Bool.{_||_};
 ghost use Prim.Native.Nat.{_<_, _^_};
 ghost use Rattle.mmc.specs.Times.{framesTo};
 ghost use Rattle.recorder.specs.Replies.{Unsigned, UnsignedIn};
+ghost use Rattle.recorder.specs.Script.{isErasing};
 ghost use Rattle.recorder.specs.Exchanges.{startAt, past, progressPast, unreadySeen, see};
 use crate::replies::Reading;
 use crate::replies::TrackInformation;
@@ -79,6 +81,13 @@ fn progress_past(op: Op, progress: u16) -> u16
     if takes_immed(op) { 0 } else { progress }
 }
 
+// Whether the disc was erased, after an operation.
+fn erased_past(op: Op, erased: bool) -> bool
+    ensures { λ r. ⌜ r ≡ (isErasing op || erased) ⌝ }
+{
+    is_erasing(op) || erased
+}
+
 // The same, but for the answer to TEST UNIT READY.
 fn unready(v: Seen) -> Seen
     ensures { λ r. ⌜ r ≡ unreadySeen v ⌝ }
@@ -142,7 +151,7 @@ pub(crate) fn see_reply(m: Method, op: Op, v: Seen, reading: Reading) -> Seen
             profile: v.profile,
             status: v.status,
             at: past_op(op, at),
-            erased: is_erasing(op) || v.erased,
+            erased: erased_past(op, v.erased),
             ready: asks_ready(op),
             progress: progress_past(op, v.progress),
         },

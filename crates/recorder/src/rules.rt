@@ -224,8 +224,12 @@ fn judge_track(o: Order, track: u16, v: Seen, i: TrackInformation) -> Verdict
     let start = frames_to(address);
     let unusable = unusable_track(m, at, start, i);
     let full = !it_fits(m, blocks_after(o, track as usize - 1), start, i);
-    if track != 1 || o.erase {
-        return first_of(false, false, unusable, false, false, full);
+    let later = first_of(false, false, unusable, false, false, full);
+    if track != 1 {
+        return later;
+    }
+    if o.erase {
+        return later;
     }
     let profile = other_profile(v.profile);
     let status = unsuitable_status(m, v.status);

@@ -40,6 +40,7 @@ short immed n a (Write t f k) = short-if (writeRange a k) _ refl
 short immed n a (SynchronizeCache t) = refl
 short immed n a (CloseTrack t) = refl
 short immed n a CloseSession = refl
+short immed n a Blank = refl
 short immed n a TestUnitReady = refl
 short immed n a RequestSense = refl
 

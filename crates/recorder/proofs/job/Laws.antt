@@ -2,7 +2,7 @@
 use mathlib.Core.Path.{_≡_, refl, sym, ap, _∙_}
 use mathlib.Core.Bool.{Bool, true, false, not, _&&_}
 use mathlib.Core.List.{List, []}
-use Prim.Native.Nat.{ℕ, suc, _+_, _-_, _≤_, _<_, _^_}
+use Prim.Native.Nat.{ℕ, suc, _+_, _≤_, _<_, _^_}
 use native.Mathlib.Numerals.{add-one}
 use native.Mathlib.Omega.{arith}
 use borrow.Author.Tests.{leb-true, not-true, not-false}
@@ -35,12 +35,12 @@ use Rattle.recorder.specs.declared.job.Poll.the-variants.{Off, Ready, Se
 use Rattle.recorder.specs.declared.job.Progress.{Progress}
 use Rattle.recorder.specs.declared.job.Recorder.{Recorder}
 use Rattle.recorder.specs.Answers.{because, stop, cdbOf}
-use Rattle.recorder.specs.Replies.{isBusy, readFailed, isUnready, readUnready, wholeProfile, readProfile, wholeDisc, readStatus, wholeInformation, informationOf, readInformation, readProgress, readGood, failedBy, reading, UnsignedIn, ForTrack}
+use Rattle.recorder.specs.Replies.{isBusy, readFailed, isUnready, readUnready, wholeProfile, readProfile, wholeDisc, readDisc, wholeInformation, informationOf, readInformation, readProgress, readGood, failedBy, reading, UnsignedIn, ForTrack}
 use Rattle.recorder.specs.Script.{trackIn, ofWrite, asksReady}
 use Rattle.recorder.specs.Exchanges.{startAt, past, see}
 use Rattle.recorder.specs.Rules.{Judgement, onward, still, lastFrame, fits, trackTests, judge, refusedBy}
 use Rattle.recorder.specs.Places.{pieceOf, blockAfter, opAfter, afterIn}
-use Rattle.recorder.specs.Job.{dueAt, dueIn, inOrder, inPiece, standsAt, standsIn, standsPolled, stands, Prepared, restsAt, idleRecorder, Next, Turn, goes, halt, onwardBy, turnBy, turnOf, stateOf, stepOf, unchanged, opening, takenAs, takeOf, giveOf}
+use Rattle.recorder.specs.Job.{dueAt, dueIn, inOrder, inPiece, standsAt, standsIn, standsPolled, standsErasing, stands, Prepared, restsAt, idleRecorder, Next, Turn, goes, halt, onwardBy, turnBy, turnOf, stateOf, stepOf, unchanged, opening, takenAs, takeOf, giveOf}
 use Rattle.recorder.proofs.Lists.{both, passed-clear}
 use Rattle.recorder.proofs.Apart.{passed}
 use Rattle.recorder.proofs.Standing.{limits}
@@ -55,12 +55,12 @@ pub record Tested (o : Order) (s : Progress) (l k : ℕ) (b : Bool) : Type 0 whe
   pub next-is : k ≡ pieceOf o (suc (trackIn (s .place)))
   pub test-is : b ≡ stands o s
 
-pub tested-so : (o : Order) (s : Progress) {t l k : ℕ} {a b c : Bool} → t ≡ trackIn (s .place) → l ≡ pieceOf o t → k ≡ pieceOf o (t + 1) → a ≡ standsPolled (o .immed) (s .place) (s .poll) → b ≡ standsIn (o .method) (o .count) l k (s .seen .at) (s .place) → c ≡ a && b → Tested o s l k c
-tested-so o s e p q i h j =
+pub tested-so : (o : Order) (s : Progress) {t l k : ℕ} {a b c d f : Bool} → t ≡ trackIn (s .place) → l ≡ pieceOf o t → k ≡ pieceOf o (t + 1) → a ≡ standsPolled (o .immed) (s .place) (s .poll) → b ≡ standsErasing (o .erase) (s .place) → c ≡ standsIn (o .method) (o .count) l k (s .seen .at) (s .place) → d ≡ b && c → f ≡ a && d → Tested o s l k f
+tested-so o s e p q i b h w j =
     let x = rw e at p in
     let y = rw (add-one, e) at q in
     let z = rw (x, y) at h in
-    record { length-is = x; next-is = y; test-is = rw (j, i, z) }
+    record { length-is = x; next-is = y; test-is = rw (j, i, w, b, z) }
 
 -- ---- where the job stands, what comes after it is a number of 32 bits
 
@@ -85,6 +85,7 @@ module _ (m : Method) (n l k : ℕ) (at : FrameCount) where
   by-write P z g (SynchronizeCache t) e p q = p
   by-write P z g (CloseTrack t) e p q = p
   by-write P z g CloseSession e p q = p
+  by-write P z g Blank e p q = p
   by-write P z g TestUnitReady e p q = p
   by-write P z g RequestSense e p q = p
 
@@ -100,9 +101,9 @@ start-fits : (m : Method) (blocks : ℕ) (at : FrameCount) (i : TrackInformation
 start-fits Tao blocks at i e h = let k = limits Tao blocks i e .1 in omega arith
 start-fits Sao blocks at i e h = h
 
--- the two parts of the test
+-- the last part of the test
 pub in-place : (o : Order) (s : Progress) → stands o s ≡ true → standsIn (o .method) (o .count) (pieceOf o (trackIn (s .place))) (pieceOf o (suc (trackIn (s .place)))) (s .seen .at) (s .place) ≡ true
-in-place o s e = both (standsPolled (o .immed) (s .place) (s .poll)) _ e .1
+in-place o s e = both (standsErasing (o .erase) (s .place)) _ (both (standsPolled (o .immed) (s .place) (s .poll)) _ e .1) .1
 
 module _ (o : Order) (x : Op) (v : Seen) (h : v .at .0 < 2 ^ 32) (e : standsIn (o .method) (o .count) (pieceOf o (trackIn x)) (pieceOf o (suc (trackIn x))) (v .at) x ≡ true) where
   -- a poll puts no block
@@ -117,10 +118,10 @@ module _ (o : Order) (x : Op) (v : Seen) (h : v .at .0 < 2 ^ 32) (e : standsIn (
   fits-by p (Failed y) xs j = h
   fits-by p Malformed xs j = h
   fits-by p (Profile n) xs j = h
-  fits-by p (Status q) xs j = h
+  fits-by p (Disc q) xs j = h
   fits-by p (Information i) xs j =
       let t = trackIn (dueAt x p) in
-      start-fits (o .method) (still o t) (v .at) i (passed o t v i (passed-clear (trackTests o t v i) (ap refusedBy j)) .fitting) h
+      start-fits (o .method) (still o t) (v .at) i (passed o t v i (passed-clear (trackTests o t v i) [] (ap refusedBy j)) .fitting) h
   fits-by p (ProgressIndication n) xs j = h
   fits-by p Unread xs j = past-due p
 
@@ -143,7 +144,7 @@ small d k h = simp getD-drop (omega (arith, h (k + 0), h (k + 1), h (k + 2), h (
 module _ (m : Method) (n l k : ℕ) (at : FrameCount) (d : List ℕ) (h : Bytes d) where
   -- a 52h comes before a track of the order
   sound-good : (x : Op) → standsAt m n l k at x ≡ true → Sound (trackIn x) (readGood x d)
-  unfolding inOrder readProfile readStatus readInformation informationOf readProgress
+  unfolding inOrder readProfile readDisc readInformation informationOf readProgress
   sound-good GetConfiguration e = sound-if 0 (wholeProfile d) _ _ (tt, tt) (tt, tt)
   sound-good ReadDiscInformation e = sound-if 0 (wholeDisc d) _ _ (tt, tt) (tt, tt)
   sound-good (ReadTrackInformation t) e = sound-if (t .0) (wholeInformation d) _ _ ((be32 (drop 12 d), (refl, small d 12 h)), leb-true 1 _ (both _ _ e .0)) (tt, tt)
@@ -153,6 +154,7 @@ module _ (m : Method) (n l k : ℕ) (at : FrameCount) (d : List ℕ) (h : Bytes 
   sound-good (SynchronizeCache t) e = (tt, tt)
   sound-good (CloseTrack t) e = (tt, tt)
   sound-good CloseSession e = (tt, tt)
+  sound-good Blank e = (tt, tt)
   sound-good TestUnitReady e = (tt, tt)
   sound-good RequestSense e = sound-if 0 (leb 18 (length d)) _ _ (tt, tt) (tt, tt)
 
@@ -178,7 +180,7 @@ prepared o s good d w h b e =
 
 -- ---- a step
 
--- onward without polls in front
+-- onward with nothing in front
 pub turned : (o : Order) (s : Progress) (r : Reading) {l k : ℕ} {d : Op} {f : Following} {w : Seen} {t : Turn} → judge o (s .seen) (dueIn s) r ≡ onward [] → d ≡ dueIn s → w ≡ see (o .method) d r (s .seen) → l ≡ pieceOf o (trackIn (s .place)) → k ≡ pieceOf o (suc (trackIn (s .place))) → f ≡ opAfter (o .method) (o .count) l k (s .place) → t ≡ onwardBy (s .poll) (s .place) f w → t ≡ turnOf o s r
 turned o s r {k = k} {w = w} j i e x y h q =
     q ∙

@@ -15,7 +15,7 @@ past-op-requires c κs = rw (c .enum-told5 .given .1) at (c .before .before .bef
 returns-9 : tie.Need-returns-9
 returns-9 c =
     let k = c .before .before in
-    simp (k .before .enum-told5 .given .1, k .past-op .ensures, c .before .asks-ready .ensures, c .progress-past .ensures)
+    simp (k .before .before .enum-told5 .given .1, k .before .past-op .ensures, k .erased-past .ensures, c .before .asks-ready .ensures, c .progress-past .ensures)
 
 pub see-reply-spec : {M : Type 1} → statement M
 see-reply-spec =
@@ -35,6 +35,7 @@ see-reply-spec =
     (λ c. search needs)
     (λ c. search needs)
     past-op-requires
+    (λ c κs. search needs)
     (λ c κs. search needs)
     (λ c κs. search needs)
     (λ c. rw (c .enum-told .given .1))

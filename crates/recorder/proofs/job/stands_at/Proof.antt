@@ -51,6 +51,9 @@ returns-10 c = rw (c .enum-told9 .given .1)
 returns-11 : tie.Need-returns-11
 returns-11 c = rw (c .enum-told10 .given .1)
 
+returns-12 : tie.Need-returns-12
+returns-12 c = rw (c .enum-told11 .given .1)
+
 pub stands-at-spec : {M : Type 1} → statement M
 stands-at-spec =
     tie.close
@@ -76,6 +79,7 @@ stands-at-spec =
     (λ c. search needs)
     (λ c. search needs)
     (λ c. search needs)
+    (λ c. search needs)
     returns
     returns-2
     returns-3
@@ -86,4 +90,5 @@ stands-at-spec =
     returns-8
     returns-9
     returns-10
-    returns-11)
+    returns-11
+    returns-12)

@@ -2,7 +2,7 @@ use mathlib.Core.Path.{_≡_, sym, ap, subst, _∙_}
 use mathlib.Core.List.{List, []}
 use Prim.Native.Nat.{_<_, _^_}
 use Rattle.recorder.specs.declared.script.Op.{Op}
-use Rattle.recorder.specs.Script.{trackIn, polls}
+use Rattle.recorder.specs.Script.{trackIn, polls, erasing}
 use Rattle.recorder.specs.Exchanges.{see}
 use Rattle.recorder.specs.Rules.{judgementIn, onward, judge}
 use Rattle.recorder.specs.Places.{pieceOf}
@@ -45,6 +45,9 @@ see-reply-requires c κs = let k = c .before in (sees (k .before .before) [] (ap
 see-reply-requires-2 : tie.Need-see-reply-requires-2
 see-reply-requires-2 c κs = (sees (c .before .before) polls (ap judgementIn (c .enum-told3 .given .1)), start (c .before .before) .pre .unsigned)
 
+see-reply-requires-3 : tie.Need-see-reply-requires-3
+see-reply-requires-3 c κs = (sees (c .before .before) erasing (ap judgementIn (c .enum-told4 .given .1)), start (c .before .before) .pre .unsigned)
+
 returns : tie.Need-returns
 returns c = rw (← judged (c .before .before), c .enum-told .given .1)
 
@@ -61,10 +64,15 @@ returns-3 c =
     rw (← judged j, c .before .enum-told3 .given .1, c .see-reply2 .ensures, j .before .due-at .ensures)
 
 returns-4 : tie.Need-returns-4
-returns-4 c = rw (← judged (c .before .before .before), c .before .verdict .given .1)
+returns-4 c =
+    let j = c .before .before .before in
+    rw (← judged j, c .before .enum-told4 .given .1, c .see-reply3 .ensures, j .before .due-at .ensures)
 
 returns-5 : tie.Need-returns-5
-returns-5 c = rw (← judged (c .before .before .before), c .before .verdict2 .given .1)
+returns-5 c = rw (← judged (c .before .before .before), c .before .verdict .given .1)
+
+returns-6 : tie.Need-returns-6
+returns-6 c = rw (← judged (c .before .before .before), c .before .verdict2 .given .1)
 
 pub turn-spec : {M : Type 1} → statement M
 turn-spec =
@@ -80,9 +88,12 @@ turn-spec =
     (λ c. search needs)
     see-reply-requires-2
     (λ c. search needs)
+    see-reply-requires-3
+    (λ c. search needs)
     (λ c. search needs)
     returns
     returns-2
     returns-3
     returns-4
-    returns-5)
+    returns-5
+    returns-6)

@@ -1,11 +1,12 @@
 use borrow.Author.Needs.{needs}
-use Rattle.recorder.proofs.script.is_closing.Statement.{statement}
-use Rattle.recorder.proofs.script.is_closing.Tie as tie
+use Rattle.recorder.proofs.script.takes_immed.Statement.{statement}
+use Rattle.recorder.proofs.script.takes_immed.Tie as tie
 
-pub is-closing-spec : {M : Type 1} → statement M
-is-closing-spec =
+pub takes-immed-spec : {M : Type 1} → statement M
+takes-immed-spec =
     tie.close
     (tie.spec
+    (λ c. search needs)
     (λ c. search needs)
     (λ c. search needs)
     (λ c. search needs)
@@ -27,4 +28,5 @@ is-closing-spec =
     (λ c. rw (c .enum-told8 .given .1))
     (λ c. rw (c .enum-told9 .given .1))
     (λ c. rw (c .enum-told10 .given .1))
-    (λ c. rw (c .enum-told11 .given .1)))
+    (λ c. rw (c .enum-told11 .given .1))
+    (λ c. rw (c .enum-told12 .given .1)))
