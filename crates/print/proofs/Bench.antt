@@ -4,7 +4,7 @@ use Rattle.mmc.specs.Bytes.{bytes32, be32, sumOf, allZero}
 use Rattle.mmc.specs.Refusals.{bufferOf}
 use Rattle.mmc.specs.Block.{checkSum, sealed, blockFault, blockRead}
 use Rattle.mmc.specs.Order.{allNone, validOrder}
-use Rattle.mmc.specs.OrderBlock.{methodOf, keepOf, protectOf, row, rows, orderBody, orderBytes, trackOf, tracksOf, kindsOk, fieldsOf, headOk, orderOk, readOrder}
+use Rattle.mmc.specs.OrderBlock.{methodOf, keepOf, protectOf, row, rows, orderBody, orderBytes, trackOf, tracksOf, kindsOk, fieldsOf, headOk, orderOk, readOrder, eraseOf}
 use Rattle.mmc.specs.ReplyBlock.{replyHead, replyBody, replyBytes, replyOk, replyIn, readReply}
 use Rattle.recorder.specs.Replies.{hasSense, senseOf, longWrite, isBusy, readFailed, wholeProfile, readProfile, wholeDisc, discOf, readDisc, wholeInformation, readInformation}
 use Rattle.recorder.specs.Answers.{cdbOf}
@@ -16,7 +16,7 @@ use Rattle.print.specs.Run.{cut, blocksOf, fed, begunWith}
 use Rattle.print.specs.Bench.{ExampleTexts}
 
 pub example-texts : ExampleTexts
-unfolding bytes32 be32 sumOf allZero bufferOf checkSum sealed blockFault blockRead allNone validOrder methodOf keepOf protectOf row rows orderBody orderBytes trackOf tracksOf kindsOk fieldsOf headOk orderOk readOrder replyHead replyBody replyBytes replyOk replyIn readReply hasSense senseOf longWrite isBusy readFailed wholeProfile readProfile wholeDisc discOf readDisc wholeInformation readInformation cdbOf otherProfile unsuitable inOrder standsIn takeOf giveOf codes parted leading decimal commandLine countedLine waitingLine stopText stopLine failedLine cut blocksOf fed begunWith
+unfolding bytes32 be32 sumOf allZero bufferOf checkSum sealed blockFault blockRead allNone validOrder methodOf keepOf protectOf row rows orderBody orderBytes trackOf tracksOf kindsOk fieldsOf headOk orderOk readOrder replyHead replyBody replyBytes replyOk replyIn readReply hasSense senseOf longWrite isBusy readFailed wholeProfile readProfile wholeDisc discOf readDisc wholeInformation readInformation cdbOf otherProfile unsuitable inOrder standsIn takeOf giveOf codes parted leading decimal commandLine countedLine waitingLine stopText stopLine failedLine cut blocksOf fed begunWith eraseOf
 example-texts =
     record {
       finalized = refl;
