@@ -76,6 +76,20 @@ tested-by P (t ∷ ts) xs p q = go (t .applies) refl (λ e. tested-by P ts xs (�
     go true e h = q (t .number)
     go false e h = h e
 
+-- what the first tests refuse, all refuse
+pub refused-first : (j : Judgement) (ts us : List Test) (xs : List Op) → (j ≡ onward [] → ⊥) → j ≡ tested ts [] → j ≡ tested (ts ++ us) xs
+refused-first j [] us xs n e = absurd (n e)
+refused-first j (t ∷ ts) us xs n e = go (t .applies) e (refused-first j ts us xs n)
+  where
+    go : (b : Bool) → j ≡ if b (refused (because (t .number))) (tested ts []) → (j ≡ tested ts [] → j ≡ tested (ts ++ us) xs) → j ≡ if b (refused (because (t .number))) (tested (ts ++ us) xs)
+    go true e h = e
+    go false e h = h e
+
+-- where the first tests pass, the others are left
+pub passed-first : (ts us : List Test) (xs : List Op) → Clear ts → tested (ts ++ us) xs ≡ tested us xs
+passed-first [] us xs c = refl
+passed-first (t ∷ ts) us xs c = if-no _ _ (c .0) ∙ passed-first ts us xs (c .1)
+
 -- ---- gathering
 
 pub gather-append : {A B : Type 0} (f : A → List B) (xs ys : List A) → gather f (xs ++ ys) ≡ gather f xs ++ gather f ys

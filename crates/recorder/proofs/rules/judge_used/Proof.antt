@@ -1,19 +1,16 @@
-use mathlib.Core.Path.{_≡_, refl, sym, ap, _∙_}
-use mathlib.Core.Bool.{Bool, true, false}
-use mathlib.Core.List.{List, [], _∷_, _++_}
+use mathlib.Core.Path.{_≡_, sym, ap, _∙_}
+use mathlib.Core.List.{List, [], _∷_}
 use Prim.Native.Nat.{ℕ}
 use types.Run.{OneOf, miss}
 use denote.Enum.Declared.{tagOf}
 use lib.Dec.{ltb}
-use Rattle.mmc.specs.Bytes.{if}
 use Rattle.mmc.specs.declared.order.Order.{Order}
 use Rattle.recorder.specs.declared.script.Op.{Op}
 use Rattle.recorder.specs.declared.replies.DiscInformation.{DiscInformation}
 use Rattle.recorder.specs.declared.rules.Verdict.{Verdict}
 use Rattle.recorder.specs.declared.rules.Verdict.the-variants as D
-use Rattle.recorder.specs.Answers.{because}
-use Rattle.recorder.specs.Rules.{otherProfile, mixedOrKept, shortTrack, overlong, used, notErasable, Judgement, onward, refused, Test, test, tested, judgementIn, erasingTests, erasingIf, refusedBy}
-use Rattle.recorder.proofs.Lists.{if-no, clash, Clear, passed-clear}
+use Rattle.recorder.specs.Rules.{otherProfile, mixedOrKept, shortTrack, overlong, used, notErasable, onward, Test, test, tested, judgementIn, erasingTests, erasingIf, refusedBy}
+use Rattle.recorder.proofs.Lists.{clash, passed-clear, refused-first, passed-first}
 use borrow.Author.Needs.{needs}
 use Rattle.recorder.proofs.rules.Verdict.{the-type}
 use Rattle.recorder.proofs.rules.judge_used.Statement.{statement}
@@ -27,20 +24,6 @@ not-onward D.Poll h e = clash (cc)
 not-onward D.Erase h e = clash (cc)
 not-onward (D.Refused r) h e = clash (cc)
 not-onward (D.Failed s) h e = clash (cc)
-
--- what the first tests refuse, all refuse
-refused-first : (j : Judgement) (ts us : List Test) (xs : List Op) → (j ≡ onward [] → ⊥) → j ≡ tested ts [] → j ≡ tested (ts ++ us) xs
-refused-first j [] us xs n e = absurd (n e)
-refused-first j (t ∷ ts) us xs n e = go (t .applies) e (refused-first j ts us xs n)
-  where
-    go : (b : Bool) → j ≡ if b (refused (because (t .number))) (tested ts []) → (j ≡ tested ts [] → j ≡ tested (ts ++ us) xs) → j ≡ if b (refused (because (t .number))) (tested (ts ++ us) xs)
-    go true e h = e
-    go false e h = h e
-
--- where the first tests pass, the others are left
-passed-first : (ts us : List Test) (xs : List Op) → Clear ts → tested (ts ++ us) xs ≡ tested us xs
-passed-first [] us xs c = refl
-passed-first (t ∷ ts) us xs c = if-no _ _ (c .0) ∙ passed-first ts us xs (c .1)
 
 -- 5 to 10
 abbrev early : Order → ℕ → DiscInformation → List Test
