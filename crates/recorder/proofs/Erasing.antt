@@ -1,15 +1,12 @@
 -- Where an erasing stands in the plan, no job in sight: what was judged before an A1h, and what was said before a WRITE.
 use mathlib.Core.Path.{_≡_, refl, sym, ap, subst, _∙_}
 use mathlib.Core.Bool.{Bool, true, false, not, _&&_, _||_}
-use mathlib.Core.List.{List, [], _∷_, _++_}
+use mathlib.Core.List.{List, [], _∷_}
 use Prim.Native.Nat.{ℕ, _≤_}
 use native.Mathlib.Omega.{arith}
 use borrow.Author.Tests.{ltb-false, eqb-true, eqb-false, not-false}
 use lib.Dec.{ltb, eqb}
 use Rattle.mmc.specs.Bytes.{if}
-use Rattle.mmc.specs.Order.{tracksIn, allLong, blocksOf}
-use Rattle.mmc.specs.Times.{lastAddress}
-use Rattle.mmc.specs.ReplyBlock.{Reply}
 use Rattle.mmc.specs.declared.order.Order.{Order}
 use Rattle.recorder.specs.declared.script.Op.{Op}
 use Rattle.recorder.specs.declared.script.Op.the-variants.{GetConfiguration, ReadDiscInformation, Blank, TestUnitReady, RequestSense}
@@ -17,14 +14,13 @@ use Rattle.recorder.specs.declared.replies.DiscInformation.{DiscInformat
 use Rattle.recorder.specs.declared.replies.Reading.{Reading}
 use Rattle.recorder.specs.declared.replies.Reading.the-variants.{Disc, ProgressIndication, Unread}
 use Rattle.recorder.specs.declared.exchanges.Seen.{Seen}
-use Rattle.recorder.specs.Answers.{because}
 use Rattle.recorder.specs.Replies.{reading, ofProfile, ofDisc}
-use Rattle.recorder.specs.Script.{code, ofWrite, isErasing, script}
-use Rattle.recorder.specs.Exchanges.{Exchange, polling, profile as profileSaid, disc, erased, unblank, seen}
-use Rattle.recorder.specs.Rules.{otherProfile, mixedOrKept, overlong, used, notErasable, Judgement, onward, refused, tested, erasingTests, blankTests, discTests, erases, erasingIf, judgeDisc, judge, judged, pollsIf, isLast, move, left}
+use Rattle.recorder.specs.Script.{code, isErasing}
+use Rattle.recorder.specs.Exchanges.{Exchange, profile as profileSaid, disc, erased, unblank, seen}
+use Rattle.recorder.specs.Rules.{otherProfile, overlong, used, notErasable, Judgement, onward, tested, erasingTests, blankTests, discTests, erases, erasingIf, judgeDisc, judge, judged, pollsIf, isLast, move, left}
 use Rattle.recorder.specs.History.{Each, Recordable, RightlyErased, ErasesRightly, BlankBefore, WritesOnBlank}
 use Rattle.recorder.proofs.Lists.{if-no, false-true, neither, Clear, tested-by}
-use Rattle.recorder.proofs.Turns.{made, Played, nothing, then, Reads, busy, not-ready, failed, malformed, a46, a51, a52, a03, profile, status, information, indication, ready, unread, reads, Turn, repeats, refuses, works, polls-begin, erases-first, asks, polls-on, polls-end, turn, profile-seen, erased-seen}
+use Rattle.recorder.proofs.Turns.{made, Played, nothing, then, Reads, busy, not-ready, failed, malformed, a46, a51, a03, profile, status, information, indication, ready, unread, reads, Turn, repeats, refuses, works, polls-begin, erases-first, asks, polls-on, polls-end, turn, profile-seen, erased-seen}
 use Rattle.recorder.proofs.Scripts.{isOfDisc, Past, script-past}
 
 -- ---- what the exchanges say of the disc, and what one more adds
@@ -49,32 +45,18 @@ after x g r f =
 
 -- ---- where the plan stands
 
-pub record Wipes (o : Order) (p : ℕ) (d : DiscInformation) (was : Bool) : Type 0 where
-  pub flagged : o .erase ≡ true
-  pub recordable : Recordable o
-  pub cd-rw : p ≡ 0x000A
-  pub passes-5 : otherProfile (p) ≡ false
-  pub erasable : d .erasable ≡ true
-  pub not-blank : 1 ≤ d .status
-  pub at-most-2 : d .status ≤ 2
-  pub once : was ≡ false
-
 abbrev pub Flagged : Order → Type 0
 Flagged o = (o .erase ≡ true) × Recordable o
-
-pub record Blanked (o : Order) (f : Facts) : Type 0 where
-  pub said-blank : f .unblank ≡ false
-  pub is-blank : o .erase ≡ true → f .disc .status ≡ 0
 
 -- before the first 51h is answered; an A1h is due; it is polled, or 51h is asked anew; all of that is past
 pub data Stage (o : Order) (f : Facts) : List Op → Type 0 where
   first : {l : List Op} → Past l → f .erased ≡ false → f .unblank ≡ false → Stage o f (GetConfiguration ∷ ReadDiscInformation ∷ l)
   asked : {l : List Op} → Past l → f .erased ≡ false → f .unblank ≡ false → Stage o f (ReadDiscInformation ∷ l)
-  wiping : {l : List Op} → Past l → Wipes o (f .profile) (f .disc) (f .erased) → Stage o f (Blank ∷ ReadDiscInformation ∷ l)
+  wiping : {l : List Op} → Past l → RightlyErased o (f .profile) (f .disc) (f .erased) → Stage o f (Blank ∷ ReadDiscInformation ∷ l)
   asking : {l : List Op} → Past l → f .erased ≡ true → Flagged o → Stage o f (TestUnitReady ∷ RequestSense ∷ ReadDiscInformation ∷ l)
   hearing : {l : List Op} → Past l → f .erased ≡ true → Flagged o → Stage o f (RequestSense ∷ ReadDiscInformation ∷ l)
   anew : {l : List Op} → Past l → f .erased ≡ true → Flagged o → Stage o f (ReadDiscInformation ∷ l)
-  past : {l : List Op} → Past l → Blanked o f → (o .erase ≡ true → Recordable o) → Stage o f l
+  past : {l : List Op} → Past l → BlankBefore o (f .disc) (f .unblank) → (o .erase ≡ true → Recordable o) → Stage o f l
 
 -- ---- a reply to the first 51h
 
@@ -88,7 +70,7 @@ unfolding overlong
 recordable-so o p d c = record { alike = c .1 .1 .0; long = not-false _ (c .1 .1 .1 .0); ends = ltb-false _ _ (c .1 .1 .1 .1 .0) }
 
 -- a used disc that 16 lets pass is a CD-RW that is erasable
-rightly : (o : Order) (f : Facts) (d : DiscInformation) → o .erase ≡ true → f .erased ≡ false → Clear (erasingTests o (f .profile) d) → used (d .status) ≡ true → Wipes o (f .profile) d (f .erased)
+rightly : (o : Order) (f : Facts) (d : DiscInformation) → o .erase ≡ true → f .erased ≡ false → Clear (erasingTests o (f .profile) d) → used (d .status) ≡ true → RightlyErased o (f .profile) d (f .erased)
 unfolding notErasable used
 rightly o f d e n c u =
     let q = neither (not (eqb (f .profile) 0x000A)) (not (d .erasable)) (ap (λ (b : Bool). b && (not (eqb (f .profile) 0x000A) || not (d .erasable))) (sym u) ∙ c .1 .1 .1 .1 .1 .0) in
@@ -183,7 +165,7 @@ disc-kept x g r f n indication = (refl, refl)
 disc-kept x g r f n ready = (refl, refl)
 disc-kept x g r f n (unread q i) = (refl, refl)
 
-blanked-on : (o : Order) (x : Op) (g : Bool) (r : Reading) (f : Facts) → isOfDisc x ≡ false → Reads x g r → Blanked o f → Blanked o (after x g r f)
+blanked-on : (o : Order) (x : Op) (g : Bool) (r : Reading) (f : Facts) → isOfDisc x ≡ false → Reads x g r → BlankBefore o (f .disc) (f .unblank) → BlankBefore o (after x g r f .disc) (after x g r f .unblank)
 blanked-on o x g r f n w b =
     let k = disc-kept x g r f n w in
     record {
@@ -204,10 +186,7 @@ module _ (o : Order) (v : Seen) (f : Facts) (p : v .profile ≡ f .profile) (e :
 
   heard : (l : List Op) (n : ℕ) → Past l → f .erased ≡ true → Flagged o → (b : Bool) → Stage o (after RequestSense true (ProgressIndication n) f) (move (pollsIf b) (RequestSense ∷ ReadDiscInformation ∷ l))
   heard l n z w g true = asking z w g
-  heard l n z w g false = hearing-end z w g
-    where
-      hearing-end : Past l → f .erased ≡ true → Flagged o → Stage o (after RequestSense true (ProgressIndication n) f) (ReadDiscInformation ∷ l)
-      hearing-end z w g = anew z w g
+  heard l n z w g false = anew z w g
 
   stage-by : (x : Op) (l : List Op) (g : Bool) (r : Reading) (a b : Bool) → Reads x g r → Turn a x g b (judge o v x r) → Stage o f (x ∷ l) → Then x g r l
   stage-by x l g r a b (busy i) t (first z n u) = first z n u
@@ -253,7 +232,7 @@ abbrev pub isLater : Op → Bool
 isLater x = eqb (code x) 0x52 || eqb (code x) 0x2A
 
 module _ (o : Order) (f : Facts) where
-  at-erasing : (x : Op) (l : List Op) → isErasing x ≡ true → Stage o f (x ∷ l) → Wipes o (f .profile) (f .disc) (f .erased)
+  at-erasing : (x : Op) (l : List Op) → isErasing x ≡ true → Stage o f (x ∷ l) → RightlyErased o (f .profile) (f .disc) (f .erased)
   at-erasing x l e (first z n u) = absurd (false-true e)
   at-erasing x l e (asked z n u) = absurd (false-true e)
   at-erasing x l e (wiping z w) = w
@@ -262,7 +241,7 @@ module _ (o : Order) (f : Facts) where
   at-erasing x l e (anew z n k) = absurd (false-true e)
   at-erasing x l e (past z n k) = absurd (false-true (sym (not-erasing x (z .0)) ∙ e))
 
-  at-later : (x : Op) (l : List Op) → isLater x ≡ true → Stage o f (x ∷ l) → Blanked o f × (o .erase ≡ true → Recordable o)
+  at-later : (x : Op) (l : List Op) → isLater x ≡ true → Stage o f (x ∷ l) → BlankBefore o (f .disc) (f .unblank) × (o .erase ≡ true → Recordable o)
   at-later x l e (first z n u) = absurd (false-true e)
   at-later x l e (asked z n u) = absurd (false-true e)
   at-later x l e (wiping z w) = absurd (false-true e)
@@ -275,13 +254,11 @@ module _ (o : Order) (es : List Exchange) (x : Op) (l : List Op) (p : Played o e
   here : Stage o (facts es) (x ∷ l)
   here = subst (Stage o (facts es)) e (stage o es p)
 
-  pub rightly-erased : isErasing x ≡ true → RightlyErased o es
-  rightly-erased i =
-      let w = at-erasing o (facts es) x l i here in
-      record { flagged = w .flagged; recordable = w .recordable; cd-rw = w .cd-rw; passes-5 = w .passes-5; erasable = w .erasable; not-blank = w .not-blank; at-most-2 = w .at-most-2; once = w .once }
+  pub rightly-erased : isErasing x ≡ true → RightlyErased o (profileSaid es) (disc es) (erased es)
+  rightly-erased i = at-erasing o (facts es) x l i here
 
-  pub on-blank : isLater x ≡ true → BlankBefore o es
-  on-blank i = let b = at-later o (facts es) x l i here .0 in record { said-blank = b .said-blank; is-blank = b .is-blank }
+  pub on-blank : isLater x ≡ true → BlankBefore o (disc es) (unblank es)
+  on-blank i = at-later o (facts es) x l i here .0
 
   pub was-recordable : isLater x ≡ true → o .erase ≡ true → Recordable o
   was-recordable i = at-later o (facts es) x l i here .1

@@ -14,7 +14,7 @@ use Rattle.mmc.specs.ReplyBlock.{Reply}
 use Rattle.mmc.specs.declared.order.Order.{Order}
 use Rattle.recorder.specs.declared.script.Op.{Op}
 use Rattle.recorder.specs.Answers.{Ruling, issue, done, stop}
-use Rattle.recorder.specs.Script.{code, asksReady, isPoll, isErasing, takesImmed, isPolled, beforeTracks, eachTrack, script, expected}
+use Rattle.recorder.specs.Script.{code, asksReady, isPoll, isErasing, takesImmed, isPolled, beforeTracks, eachTrack, script}
 use Rattle.recorder.specs.Exchanges.{Exchange, ends, polling, erased}
 use Rattle.recorder.specs.Rules.{Judgement, move, judged, left, none, refusedBy, firstRefused, ruled, exchanged, play}
 use Rattle.recorder.specs.History.{commandIn, going, as-done, ending, exactCount, AllWell, unpolled, answered}

@@ -21,7 +21,7 @@ use Rattle.recorder.specs.declared.job.Recorder.{Recorder}
 use Rattle.recorder.specs.declared.job.Step.{Step}
 use Rattle.recorder.specs.Answers.{Why, because, Ruling, issue, done, stop, madeFor, bytesIn}
 use Rattle.recorder.specs.Script.{isPoll, isErasing, stepwise, write, Block}
-use Rattle.recorder.specs.Exchanges.{Exchange, recorded, occupied, polling, progress, seen, named}
+use Rattle.recorder.specs.Exchanges.{Exchange, recorded, occupied, polling, progress, profile, disc, erased, unblank, seen, named}
 use Rattle.recorder.specs.Rules.{left, none, found, refusal, ruled, exchanged, play, orderedIn, AllClosed}
 use Rattle.recorder.specs.Job.{Next, nextIn, dueAt, commandOf, mostCommands, latestProgress, unchanged, validOf, takenAs, takeOf, giveOf}
 use Rattle.recorder.specs.History.{History, taken, given, givenAll, history, commandIn, commands, going, as-done, as-stop, ending, ended, phaseIn, Accompanied, OfAnswer, Every, Fresh, Unskipped, RightlyErased, ErasesRightly, BlankBefore, WritesOnBlank, exactCount, AllWell, unpolled, answered, AllGood, Whole, Takes, Gives}
@@ -154,10 +154,10 @@ module _ (o : Order) (k : ℕ) (x : Op) (p : Poll) (n : ℕ) (xs : List Ruling) 
     plan-going : left r es ≡ planAt o x p
     plan-going = ap (λ (q : Order). left q es) (sym i) ∙ g .plan
 
-    rightly-going : Played r es → dueAt x p ≡ Blank → RightlyErased r es
+    rightly-going : Played r es → dueAt x p ≡ Blank → RightlyErased r (profile es) (disc es) (erased es)
     rightly-going w e = rightly-erased r es (dueAt x p) (behindAt o x p) w plan-going (ap isErasing e)
 
-    on-blank-going : Played r es → (t f k : ℕ) → dueAt x p ≡ write t f k → BlankBefore r es
+    on-blank-going : Played r es → (t f k : ℕ) → dueAt x p ≡ write t f k → BlankBefore r (disc es) (unblank es)
     on-blank-going w t f k e = on-blank r es (dueAt x p) (behindAt o x p) w plan-going (ap isLater e)
 
     unskipped-going : Played r es → isPoll (dueAt x p) ≡ polling (r .immed) es

@@ -19,10 +19,10 @@ use Rattle.recorder.specs.declared.replies.TrackInformation.{TrackInform
 use Rattle.recorder.specs.declared.replies.Reading.{Reading}
 use Rattle.recorder.specs.declared.replies.Reading.the-variants.{Busy, NotReady, Failed, Malformed, Profile, Disc, Information, ProgressIndication, Unread}
 use Rattle.recorder.specs.declared.exchanges.Seen.{Seen}
-use Rattle.recorder.specs.Answers.{Why, because}
-use Rattle.recorder.specs.Replies.{senseOf, isBusy, readFailed, isUnready, readUnready, wholeProfile, readProfile, wholeDisc, readDisc, wholeInformation, readInformation, readProgress, readGood, failedBy, reading, ofProfile, ofDisc, ofProgress}
+use Rattle.recorder.specs.Answers.{Why}
+use Rattle.recorder.specs.Replies.{senseOf, isBusy, readFailed, isUnready, readUnready, wholeProfile, readProfile, wholeDisc, readDisc, wholeInformation, readInformation, readProgress, readGood, failedBy, reading, ofProfile, ofProgress}
 use Rattle.recorder.specs.Script.{code, asksReady, isPoll, isErasing, erasing, takesImmed, isPolled, polls}
-use Rattle.recorder.specs.Exchanges.{Exchange, wasReady, polling, progress, profile as profileSaid, disc, erased, see, seen}
+use Rattle.recorder.specs.Exchanges.{Exchange, wasReady, polling, progress, profile as profileSaid, erased, see, seen}
 use Rattle.recorder.specs.Rules.{Judgement, again, onward, refused, Test, tested, discTests, erases, erasingIf, trackTests, pollsIf, judge, judged, left, Found, none, found, firstRefused, command, answerTo, ruled, exchanged, play}
 use Rattle.recorder.proofs.Lists.{tested-by}
 

@@ -38,7 +38,7 @@ use Rattle.recorder.specs.Rules.{otherProfile, lastStatus, unsuitable, u
 use Rattle.recorder.specs.Places.{pieceEnded, beforeBlock, afterCloseTrack, opAfter, afterIn}
 use Rattle.recorder.specs.Job.{dueAt}
 use Rattle.recorder.specs.History.{AllMarkedGood, Bytes, AllBytes, discsIn, discs, Passing, Recordable, Suitable}
-use Rattle.recorder.proofs.Lists.{if-yes, if-no, false-true, both, neither, clash, Clear, clear-passes, blocks-length}
+use Rattle.recorder.proofs.Lists.{if-yes, if-no, false-true, both, neither, Clear, clear-passes, blocks-length}
 use Rattle.recorder.proofs.Turns.{made, isAsking, Reads, malformed, profile, status, information, indication, ready, unread, reads, profile-seen, erased-seen}
 use Rattle.recorder.proofs.Scripts.{by, each-blocks}
 use Rattle.recorder.proofs.Rulings.{refused-next, ruled-at}

@@ -149,30 +149,31 @@ pub record Recordable (o : Order) : Type 0 where
   pub long : allLong (tracksIn o) ≡ true
   pub ends : blocksOf (tracksIn o) ≤ lastAddress
 
--- an A1h, given the exchanges before it: the order has flag bit 3 and passes 8, 9 and the lead-out limit; the profile was 000Ah, so 5 passes
--- too; the latest 51h said that the disc is erasable, and of status 1 or 2; and no erasing has taken place
-pub record RightlyErased (o : Order) (before : List Exchange) : Type 0 where
+-- an A1h, where 46h said the profile p and 51h the disc d: the order has flag bit 3 and passes 8, 9 and the lead-out limit; the profile is
+-- 000Ah, so 5 passes too; the disc is erasable, and of status 1 or 2; and no erasing has taken place
+pub record RightlyErased (o : Order) (p : ℕ) (d : DiscInformation) (before : Bool) : Type 0 where
   pub flagged : o .erase ≡ true
   pub recordable : Recordable o
-  pub cd-rw : profile before ≡ 0x000A
-  pub passes-5 : otherProfile (profile before) ≡ false
-  pub erasable : disc before .erasable ≡ true
-  pub not-blank : 1 ≤ disc before .status
-  pub at-most-2 : disc before .status ≤ 2
-  pub once : erased before ≡ false
+  pub cd-rw : p ≡ 0x000A
+  pub passes-5 : otherProfile p ≡ false
+  pub erasable : d .erasable ≡ true
+  pub not-blank : 1 ≤ d .status
+  pub at-most-2 : d .status ≤ 2
+  pub once : before ≡ false
 
+-- a command, given the exchanges before it
 abbrev pub ErasesRightly : Order → List Exchange → Command → Type 0
-ErasesRightly o before c = c .op ≡ Blank → RightlyErased o before
+ErasesRightly o before c = c .op ≡ Blank → RightlyErased o (profile before) (disc before) (erased before)
 
 -- ---- "Afterwards 51h is asked anew and must say blank"
 
--- a WRITE, given the exchanges before it: no A1h was given, or a 51h has said blank since; with flag bit 3 the latest 51h said so in any case
-pub record BlankBefore (o : Order) (before : List Exchange) : Type 0 where
-  pub said-blank : unblank before ≡ false
-  pub is-blank : o .erase ≡ true → disc before .status ≡ 0
+-- a WRITE, where 51h said the disc d: no A1h was given, or a 51h has said blank since; with flag bit 3 the latest 51h said so in any case
+pub record BlankBefore (o : Order) (d : DiscInformation) (unblank : Bool) : Type 0 where
+  pub said-blank : unblank ≡ false
+  pub is-blank : o .erase ≡ true → d .status ≡ 0
 
 abbrev pub WritesOnBlank : Order → List Exchange → Command → Type 0
-WritesOnBlank o before c = (t f k : ℕ) → c .op ≡ write t f k → BlankBefore o before
+WritesOnBlank o before c = (t f k : ℕ) → c .op ≡ write t f k → BlankBefore o (disc before) (unblank before)
 
 -- ---- part 7
 
