@@ -22,9 +22,9 @@ pub(crate) const OPEN: &str = "good profile 0009\ngood disc blank\ngood track nw
 /// The first two of them.
 pub(crate) const TWO: &str = "good profile 0009\ngood disc blank\n";
 /// TAO of one track of 300 after the opening: 55h, 19 WRITEs, 35h, two 5Bh.
-const TAO_300: &str = "23 x good\n";
+pub(crate) const TAO_300: &str = "23 x good\n";
 /// SAO of one track of 300 after the opening: 55h, 5Dh, 10 and 19 WRITEs, 35h.
-const SAO_300: &str = "32 x good\n";
+pub(crate) const SAO_300: &str = "32 x good\n";
 /// One TAO track of 300 up to its 5Bh function 1.
 const TRACK_300: &str = "22 x good\n";
 
@@ -457,33 +457,16 @@ fn failed_replies(list: &mut List) {
     list.job("12-good-with-sense", "waiting 12", "a good reply with sense data is good; its data is ignored", &job("good raw 70 00 05 00 00 00 00 0A 00 00 00 00 21 00"));
 }
 
-/// The text of an all-good TAO job of two tracks, one line a reply.
-fn tao_lines() -> Vec<String> {
-    let mut lines = opening_lines("good track nwa 0 free 601");
-    lines.extend(vec!["good".to_string(); 22]);
-    lines.push("good track nwa 300 free 301".to_string());
-    lines.extend(vec!["good".to_string(); 23]);
-    lines
-}
-
-/// The text of an all-good SAO job of one track, one line a reply.
-fn sao_lines() -> Vec<String> {
-    let mut lines = opening_lines("good track nwa 0 free 300");
-    lines.extend(vec!["good".to_string(); 32]);
-    lines
-}
-
-fn opening_lines(third: &str) -> Vec<String> {
-    ["good profile 000A", "good disc blank", third].map(str::to_string).to_vec()
-}
-
 /// A failure, a row of busy replies, and the input's end at each place.
 fn failures_everywhere(list: &mut List) {
-    let jobs = [
-        ("tao", "order tao protect audio 300 data 301\n", tao_lines()),
-        ("sao", "order sao protect data 300\n", sao_lines()),
-    ];
-    for (method, order, lines) in jobs {
+    let blank = "good profile 000A\ngood disc blank\n";
+    let tao = format!("{blank}good track nwa 0 free 601\n{TRACK_300}good track nwa 300 free 301\n{TAO_300}");
+    let sao = format!("{blank}good track nwa 0 free 300\n{SAO_300}");
+    for (method, order, replies) in [
+        ("tao", "order tao protect audio 300 data 301\n", tao),
+        ("sao", "order sao protect data 300\n", sao),
+    ] {
+        let lines = lines_of(&replies);
         for place in 0..lines.len() {
             let before = format!("{order}{}", join(&lines[..place]));
             let number = place + 1;
@@ -502,6 +485,16 @@ fn failures_everywhere(list: &mut List) {
             );
         }
     }
+}
+
+/// The replies of a text, one line each.
+pub(crate) fn lines_of(text: &str) -> Vec<String> {
+    let mut lines = Vec::new();
+    for line in text.lines() {
+        let (times, line) = line.split_once(" x ").unwrap_or(("1", line));
+        lines.extend(vec![line.to_string(); times.parse().unwrap_or(1)]);
+    }
+    lines
 }
 
 pub(crate) fn join(lines: &[String]) -> String {

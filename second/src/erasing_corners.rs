@@ -1,9 +1,9 @@
 //! Corner jobs for document 02, Ask 2, at least one for each sentence that a
 //! job can show. They come behind those of `polling_corners`.
 
-use crate::corners::{disc_data, join, track_data, List, OPEN, TWO};
+use crate::corners::{disc_data, join, lines_of, track_data, List, OPEN, SAO_300, TAO_300, TWO};
 use crate::hex;
-use crate::polling_corners::{polled_at, polled_in_detail, Place, POLL};
+use crate::polling_corners::{each_disturbed, flag_words, polled_at, polled_in_detail, tao_one, Place, POLL};
 
 /// 46h and 51h of a used CD-RW.
 const USED: &str = "good profile 000A\ngood disc appendable erasable\n";
@@ -12,9 +12,6 @@ const FINALIZED: &str = "good profile 000A\ngood disc finalized erasable\n";
 const ERASED: &str = "good\ngood disc blank\n";
 /// A 52h reply with ample room.
 const ROOM: &str = "good track nwa 0 free 300000\n";
-/// One track of 300 after the opening, TAO and SAO.
-const TAO_300: &str = "23 x good\n";
-const SAO_300: &str = "32 x good\n";
 
 /// All corner jobs of the erasing.
 pub(crate) fn erasing(list: &mut List) {
@@ -57,10 +54,6 @@ const SHAPES: [Shape; 4] = [
     Shape { name: "sao", tracks: "data 300", rest: |poll| format!("32 x good\n{poll}"), count: 35, pollings: 1 },
     Shape { name: "sao-two", tracks: "audio 300 audio 301", rest: |poll| format!("51 x good\n{poll}"), count: 54, pollings: 1 },
 ];
-
-fn tao_one(poll: &str) -> String {
-    format!("21 x good\n{poll}good\n{poll}good\n{poll}")
-}
 
 fn tao_two(poll: &str) -> String {
     format!("21 x good\n{poll}good\n{poll}good track nwa 450 free 299550\n{}", tao_one(poll))
@@ -120,10 +113,7 @@ fn mix(list: &mut List, shape: &Shape, flags: &str, (immed, erase): (bool, bool)
 /// The flag with every mix of the others, on a used disc.
 fn flag_mixes(list: &mut List) {
     for flags in 8..16 {
-        let words: String = [(1, " keep"), (2, " protect"), (4, " immed"), (8, " erase")]
-            .into_iter()
-            .filter_map(|(bit, word)| (flags & bit != 0).then_some(word))
-            .collect();
+        let words = flag_words(flags);
         let immed = flags & 4 != 0;
         let poll = if immed { POLL } else { "" };
         for kind in ["audio", "data"] {
@@ -571,45 +561,12 @@ fn later_tracks(list: &mut List) {
     list.job("erase-later-blank-stale", "stop 7 26", "not erased: second address one less: 7", &format!("{blank}good track nwa 1299 free 301\n"));
 }
 
-/// The replies of a text, one line each.
-fn lines_of(text: &str) -> Vec<String> {
-    let mut lines = Vec::new();
-    for line in text.lines() {
-        let (times, line) = line.split_once(" x ").unwrap_or(("1", line));
-        lines.extend(vec![line.to_string(); times.parse().unwrap_or(1)]);
-    }
-    lines
-}
-
 /// Each command of an erasing job fails, and each is answered busy.
 fn every_command(list: &mut List) {
-    let polled = format!("{USED}good\n{POLL}good disc blank\n{ROOM}{}", tao_two(POLL));
-    for (method, order, text) in [
-        ("tao", "order tao protect immed erase audio 300 data 301\n", polled),
-        ("sao", "order sao protect erase data 300\n", format!("{FINALIZED}{ERASED}{ROOM}{SAO_300}")),
-    ] {
-        let lines = lines_of(&text);
-        for place in 0..lines.len() {
-            let before = format!("{order}{}", join(&lines[..place]));
-            let number = place + 1;
-            let name = |what: &str| format!("every-erasing-{method}-{number:02}-{what}");
-            list.job(
-                &name("fails"),
-                &format!("stop 12 {number} 04 08 03"),
-                &format!("command {number} of the erasing job fails: 12"),
-                &format!("{before}failed 04 08 03\n"),
-            );
-            // A 00h is never busy: the 03h follows and another round.
-            let polls = lines.get(place + 1).is_some_and(|next| next == "good progress 0000");
-            let busy = if polls { "busy\ngood progress 0000\n" } else { "2 x busy\n" };
-            list.job(
-                &name("busy"),
-                &format!("done {}", lines.len() + 2),
-                &format!("command {number} is answered busy, and goes again unless it is a 00h"),
-                &format!("{before}{busy}{}", join(&lines[place..])),
-            );
-        }
-    }
+    let tao = format!("{USED}good\n{POLL}good disc blank\n{ROOM}{}", tao_two(POLL));
+    let sao = format!("{FINALIZED}{ERASED}{ROOM}{SAO_300}");
+    each_disturbed(list, "erasing", "tao", "order tao protect immed erase audio 300 data 301\n", &tao);
+    each_disturbed(list, "erasing", "sao", "order sao protect erase data 300\n", &sao);
 }
 
 /// The input ends, or holds a bad block, at each place of the opening.

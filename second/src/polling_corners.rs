@@ -1,7 +1,7 @@
 //! Corner jobs for document 02, Ask 1, at least one for each sentence that a
 //! job can show. They come behind those of `corners`.
 
-use crate::corners::{join, List, OPEN, TWO};
+use crate::corners::{join, lines_of, List, OPEN, TWO};
 use crate::hex;
 use Ends::{Stop, Waiting, Well};
 
@@ -11,6 +11,11 @@ pub(crate) const POLL: &str = "good\ngood progress 0000\n";
 const TO_35H: &str = "21 x good\n";
 /// SAO of one track of 300 after the opening, up to the good reply to 35h.
 const TO_SAO_35H: &str = "32 x good\n";
+
+/// TAO of one track of 300 after the opening, with this polling or none.
+pub(crate) fn tao_one(poll: &str) -> String {
+    format!("{TO_35H}{poll}good\n{poll}good\n{poll}")
+}
 
 /// All corner jobs of the polling.
 pub(crate) fn polling(list: &mut List) {
@@ -93,23 +98,19 @@ fn at_every_place(list: &mut List) {
 
 /// The pollings that are gone through at every place.
 pub(crate) fn polled_at(list: &mut List, place: &Place) {
-    for group in [rounds, unready, sense_busy, input_ends] {
-        let mut cases = Cases(Vec::new());
-        group(&mut cases);
-        put(list, place, &cases);
-    }
+    put(list, place, &[rounds, unready, sense_busy, input_ends]);
 }
 
 /// The pollings about a reply's bytes.
 pub(crate) fn polled_in_detail(list: &mut List, place: &Place) {
-    for group in [ready_fails, ready_data, sense_fails, sense_lengths, sense_progress, sense_bytes] {
-        let mut cases = Cases(Vec::new());
-        group(&mut cases);
-        put(list, place, &cases);
-    }
+    put(list, place, &[ready_fails, ready_data, sense_fails, sense_lengths, sense_progress, sense_bytes]);
 }
 
-fn put(list: &mut List, place: &Place, cases: &Cases) {
+fn put(list: &mut List, place: &Place, groups: &[fn(&mut Cases)]) {
+    let mut cases = Cases(Vec::new());
+    for group in groups {
+        group(&mut cases);
+    }
     for case in &cases.0 {
         let ends = match case.ends {
             Well(polls) => format!("done {}", place.total - 2 + polls),
@@ -357,14 +358,19 @@ fn input_ends(cases: &mut Cases) {
     cases.add("part-at-03h", Stop(1, 2, ""), "part of a block at 03h: 1", "good\nblock 02 00\n");
 }
 
+/// The words of a flags byte in an order's line.
+pub(crate) fn flag_words(flags: u8) -> String {
+    [(1, " keep"), (2, " protect"), (4, " immed"), (8, " erase")]
+        .into_iter()
+        .filter_map(|(bit, word)| (flags & bit != 0).then_some(word))
+        .collect()
+}
+
 /// Every mix of flags with both methods: Immed bits and polls with the flag,
 /// everything as before without it.
 fn flag_mixes(list: &mut List) {
     for flags in 0..8 {
-        let words: String = [(1, " keep"), (2, " protect"), (4, " immed")]
-            .into_iter()
-            .filter_map(|(bit, word)| (flags & bit != 0).then_some(word))
-            .collect();
+        let words = flag_words(flags);
         let immed = flags & 4 != 0;
         let poll = if immed { POLL } else { "" };
         let shows = if immed { "35h and 5Bh with Immed, each polled" } else { "35h and 5Bh without Immed, nothing is polled" };
@@ -373,7 +379,7 @@ fn flag_mixes(list: &mut List) {
                 &format!("immed-tao-{flags}-{kind}"),
                 if immed { "done 32" } else { "done 26" },
                 shows,
-                &format!("order tao{words} {kind} 300\n{OPEN}{TO_35H}{poll}good\n{poll}good\n{poll}"),
+                &format!("order tao{words} {kind} 300\n{OPEN}{}", tao_one(poll)),
             );
             let ends = match (flags & 1, immed) {
                 (1, _) => "stop 8 3",
@@ -430,50 +436,40 @@ fn where_polled(list: &mut List) {
     ));
 }
 
-/// The text of polled jobs, one line a reply.
-fn polled_lines(third: &str, rest: &[(&str, usize)]) -> Vec<String> {
-    let mut lines = ["good profile 000A", "good disc blank", third].map(str::to_string).to_vec();
-    for &(text, times) in rest {
-        for line in text.lines() {
-            lines.extend(vec![line.to_string(); times]);
-        }
-    }
-    lines
-}
-
 /// Each command of a polled job fails, and each is answered busy.
 fn every_command(list: &mut List) {
-    let closing = [("good", 1), (POLL, 1), ("good", 1), (POLL, 1)];
-    let mut tao = vec![("good", 20)];
-    tao.extend(closing);
-    tao.extend([("good track nwa 300 free 301", 1), ("good", 20)]);
-    tao.extend(closing);
-    tao.extend([("good", 1), (POLL, 1)]);
-    let jobs = [
-        ("tao", "order tao protect immed audio 300 data 301\n", polled_lines("good track nwa 0 free 601", &tao)),
-        ("sao", "order sao protect immed data 300\n", polled_lines("good track nwa 0 free 300", &[("good", 32), (POLL, 1)])),
-    ];
-    for (method, order, lines) in jobs {
-        for place in 0..lines.len() {
-            let before = format!("{order}{}", join(&lines[..place]));
-            let number = place + 1;
-            let name = |what: &str| format!("every-polled-{method}-{number:02}-{what}");
-            list.job(
-                &name("fails"),
-                &format!("stop 12 {number} 04 08 03"),
-                &format!("command {number} of the polled job fails: 12"),
-                &format!("{before}failed 04 08 03\n"),
-            );
-            // A 00h is never busy: the 03h follows and another round.
-            let polls = lines.get(place + 1).is_some_and(|next| next == "good progress 0000");
-            let busy = if polls { "busy\ngood progress 0000\n" } else { "2 x busy\n" };
-            list.job(
-                &name("busy"),
-                &format!("done {}", lines.len() + 2),
-                &format!("command {number} is answered busy, and goes again unless it is a 00h"),
-                &format!("{before}{busy}{}", join(&lines[place..])),
-            );
-        }
+    let blank = "good profile 000A\ngood disc blank\n";
+    let tao = format!(
+        "{blank}good track nwa 0 free 601\n{TO_35H}{POLL}good\n{POLL}good track nwa 300 free 301\n{}", tao_one(POLL)
+    );
+    let sao = format!("{blank}good track nwa 0 free 300\n{TO_SAO_35H}{POLL}");
+    each_disturbed(list, "polled", "tao", "order tao protect immed audio 300 data 301\n", &tao);
+    each_disturbed(list, "polled", "sao", "order sao protect immed data 300\n", &sao);
+}
+
+/// An all-good job of this sort: its order, and its replies, in whose place a
+/// failure comes, or busy ahead of it, one after the other.
+pub(crate) fn each_disturbed(list: &mut List, sort: &str, method: &str, order: &str, replies: &str) {
+    let lines = lines_of(replies);
+    for place in 0..lines.len() {
+        let before = format!("{order}{}", join(&lines[..place]));
+        let number = place + 1;
+        let name = |what: &str| format!("every-{sort}-{method}-{number:02}-{what}");
+        list.job(
+            &name("fails"),
+            &format!("stop 12 {number} 04 08 03"),
+            &format!("command {number} of the {sort} job fails: 12"),
+            &format!("{before}failed 04 08 03\n"),
+        );
+        // A 00h is never busy: the 03h follows and another round.
+        let polls = lines.get(place + 1).is_some_and(|next| next == "good progress 0000");
+        let busy = if polls { "busy\ngood progress 0000\n" } else { "2 x busy\n" };
+        list.job(
+            &name("busy"),
+            &format!("done {}", lines.len() + 2),
+            &format!("command {number} is answered busy, and goes again unless it is a 00h"),
+            &format!("{before}{busy}{}", join(&lines[place..])),
+        );
     }
 }
 

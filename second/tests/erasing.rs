@@ -1,11 +1,11 @@
 //! Erasing jobs written by hand from document 02, Ask 2: the commands that come
 //! and what the panel shows.
 
+mod common;
+
+use common::{counted, printed, tao_with_immed, watched, POLL};
 use second::commands::blank;
 use second::hex::plain;
-use second::print::print;
-use second::text::blocks_of;
-use second::watch::watch;
 
 /// TAO, one track of 300 with both flags on a used CD-RW. A1h: not ready, half
 /// done, then the end. 35h and both 5Bh: one round each.
@@ -31,50 +31,15 @@ good
 good progress 0000
 ";
 
-/// 46h, 51h; A1h with 11h in byte 1 and its polls; 51h anew; 52h, 55h; then 18
-/// WRITEs of 16 and one of 12; 35h and 5Bh with their polls: 26 commands, 2
-/// more for the erasing, and 10 polls.
-const TAO_COMMANDS: &str = "\
-46 00 00 00 00 00 00 00 08 00
-51 00 00 00 00 00 00 00 22 00
-A1 11 00 00 00 00 00 00 00 00 00 00
-00 00 00 00 00 00
-03 00 00 00 12 00
-00 00 00 00 00 00
-03 00 00 00 12 00
-51 00 00 00 00 00 00 00 22 00
-52 01 00 00 00 FF 00 00 30 00
-55 10 00 00 00 00 00 00 3C 00
-2A 00 00 00 00 00 00 00 10 00
-2A 00 00 00 00 10 00 00 10 00
-2A 00 00 00 00 20 00 00 10 00
-2A 00 00 00 00 30 00 00 10 00
-2A 00 00 00 00 40 00 00 10 00
-2A 00 00 00 00 50 00 00 10 00
-2A 00 00 00 00 60 00 00 10 00
-2A 00 00 00 00 70 00 00 10 00
-2A 00 00 00 00 80 00 00 10 00
-2A 00 00 00 00 90 00 00 10 00
-2A 00 00 00 00 A0 00 00 10 00
-2A 00 00 00 00 B0 00 00 10 00
-2A 00 00 00 00 C0 00 00 10 00
-2A 00 00 00 00 D0 00 00 10 00
-2A 00 00 00 00 E0 00 00 10 00
-2A 00 00 00 00 F0 00 00 10 00
-2A 00 00 00 01 00 00 00 10 00
-2A 00 00 00 01 10 00 00 10 00
-2A 00 00 00 01 20 00 00 0C 00
-35 02 00 00 00 00 00 00 00 00
-00 00 00 00 00 00
-03 00 00 00 12 00
-5B 01 01 00 00 FF 00 00 00 00
-00 00 00 00 00 00
-03 00 00 00 12 00
-5B 01 02 00 00 00 00 00 00 00
-00 00 00 00 00 00
-03 00 00 00 12 00
-done 38
-";
+/// Behind the first 51h A1h with 11h in byte 1, its polls and 51h anew: 26
+/// commands, 2 more for the erasing, and 10 polls.
+fn commands_of_tao() -> String {
+    let erasing = format!(
+        "A1 11 00 00 00 00 00 00 00 00 00 00\n{POLL}{POLL}\
+         51 00 00 00 00 00 00 00 22 00\n"
+    );
+    tao_with_immed(&erasing, POLL, POLL) + "done 38\n"
+}
 
 const TAO_OPENING: &str = "\
 idle
@@ -102,25 +67,13 @@ good track nwa 0 free 300
 32 x good
 ";
 
-fn printed(text: &str) -> String {
-    let mut output = Vec::new();
-    print(blocks_of(text).expect("a job").as_slice(), &mut output).expect("memory");
-    String::from_utf8(output).expect("text")
-}
-
-fn watched(text: &str) -> String {
-    let mut output = Vec::new();
-    watch(blocks_of(text).expect("a job").as_slice(), &mut output).expect("memory");
-    String::from_utf8(output).expect("text")
-}
-
 fn last_line(text: &str) -> String {
     printed(text).lines().last().unwrap_or("").to_string()
 }
 
 #[test]
 fn tao_commands() {
-    assert_eq!(printed(TAO_JOB), TAO_COMMANDS);
+    assert_eq!(printed(TAO_JOB), commands_of_tao());
 }
 
 #[test]
@@ -192,13 +145,7 @@ fn the_count_excludes_polls() {
     for rounds in [0, 1, 9] {
         let more = "busy\ngood progress 0100\n".repeat(rounds);
         let job = TAO_JOB.replacen("failed 02 04 07\n", &format!("{more}failed 02 04 07\n"), 1);
-        let printed = printed(&job);
-        let lines: Vec<&str> = printed.lines().collect();
-        let (last, given) = lines.split_last().expect("lines");
-        let polls = |line: &&&str| line.split(' ').count() == 6;
-        assert_eq!(given.iter().filter(polls).count(), 10 + 2 * rounds);
-        assert_eq!(given.len() - given.iter().filter(polls).count(), 28);
-        assert_eq!(*last, format!("done {}", given.len()));
+        assert_eq!(counted(&job), (28, 10 + 2 * rounds));
     }
 }
 

@@ -1,14 +1,14 @@
 //! Polled jobs written by hand from document 02, Ask 1: the commands that come
 //! and what the panel shows.
 
+mod common;
+
+use common::{counted, printed, tao_with_immed, watched, POLL};
 use second::commands::{
     close_track_session, request_sense, synchronize_cache, test_unit_ready, Bytes,
 };
 use second::hex::plain;
-use second::print::print;
-use second::text::blocks_of;
 use second::units::TrackNumber;
-use second::watch::watch;
 
 /// TAO, one track of 300 with Immed. 35h: one round. 5Bh function 1: not
 /// ready, a busy 03h, half done; then the end. 5Bh function 2: FFFFh, the end.
@@ -33,48 +33,11 @@ good
 good progress 0000
 ";
 
-/// 46h, 51h, 52h, 55h; then 18 WRITEs of 16 and one of 12; 35h with 02h and
-/// 5Bh with 01h in byte 1, each with its polls: 26 commands and 11 polls.
-const TAO_COMMANDS: &str = "\
-46 00 00 00 00 00 00 00 08 00
-51 00 00 00 00 00 00 00 22 00
-52 01 00 00 00 FF 00 00 30 00
-55 10 00 00 00 00 00 00 3C 00
-2A 00 00 00 00 00 00 00 10 00
-2A 00 00 00 00 10 00 00 10 00
-2A 00 00 00 00 20 00 00 10 00
-2A 00 00 00 00 30 00 00 10 00
-2A 00 00 00 00 40 00 00 10 00
-2A 00 00 00 00 50 00 00 10 00
-2A 00 00 00 00 60 00 00 10 00
-2A 00 00 00 00 70 00 00 10 00
-2A 00 00 00 00 80 00 00 10 00
-2A 00 00 00 00 90 00 00 10 00
-2A 00 00 00 00 A0 00 00 10 00
-2A 00 00 00 00 B0 00 00 10 00
-2A 00 00 00 00 C0 00 00 10 00
-2A 00 00 00 00 D0 00 00 10 00
-2A 00 00 00 00 E0 00 00 10 00
-2A 00 00 00 00 F0 00 00 10 00
-2A 00 00 00 01 00 00 00 10 00
-2A 00 00 00 01 10 00 00 10 00
-2A 00 00 00 01 20 00 00 0C 00
-35 02 00 00 00 00 00 00 00 00
-00 00 00 00 00 00
-03 00 00 00 12 00
-5B 01 01 00 00 FF 00 00 00 00
-00 00 00 00 00 00
-03 00 00 00 12 00
-03 00 00 00 12 00
-00 00 00 00 00 00
-03 00 00 00 12 00
-5B 01 02 00 00 00 00 00 00 00
-00 00 00 00 00 00
-03 00 00 00 12 00
-00 00 00 00 00 00
-03 00 00 00 12 00
-done 37
-";
+/// 26 commands and 11 polls.
+fn commands_of_tao() -> String {
+    let track_polls = format!("{POLL}03 00 00 00 12 00\n{POLL}");
+    tao_with_immed("", &track_polls, &POLL.repeat(2)) + "done 37\n"
+}
 
 const TAO_CLOSING: &str = "\
 busy: SYNCHRONIZE CACHE, track 1 of 1
@@ -108,21 +71,9 @@ good
 good progress 0000
 ";
 
-fn printed(text: &str) -> String {
-    let mut output = Vec::new();
-    print(blocks_of(text).expect("a job").as_slice(), &mut output).expect("memory");
-    String::from_utf8(output).expect("text")
-}
-
-fn watched(text: &str) -> String {
-    let mut output = Vec::new();
-    watch(blocks_of(text).expect("a job").as_slice(), &mut output).expect("memory");
-    String::from_utf8(output).expect("text")
-}
-
 #[test]
 fn tao_commands() {
-    assert_eq!(printed(TAO_JOB), TAO_COMMANDS);
+    assert_eq!(printed(TAO_JOB), commands_of_tao());
 }
 
 #[test]
@@ -215,12 +166,8 @@ fn the_count_excludes_polls() {
         for rounds in [0, 1, 7] {
             let more = "good\ngood progress 0100\n".repeat(rounds);
             let (start, last_round) = job.split_at(job.len() - "good\ngood progress 0000\n".len());
-            let printed = printed(&format!("{start}{more}{last_round}"));
-            let polls = |line: &&str| line.split(' ').count() == 6;
-            let lines: Vec<&str> = printed.lines().collect();
-            let (last, given) = lines.split_last().expect("lines");
-            assert_eq!(given.iter().filter(|line| !polls(line)).count(), count);
-            assert_eq!(*last, format!("done {}", given.len()));
+            let (commands, _) = counted(&format!("{start}{more}{last_round}"));
+            assert_eq!(commands, count);
         }
     }
 }
@@ -230,7 +177,7 @@ fn the_count_excludes_polls() {
 fn without_the_flag() {
     let job = "order tao data 300\ngood profile 0009\ngood disc blank\n\
                good track nwa 0 free 300000\n23 x good\n";
-    let unpolled: String = TAO_COMMANDS
+    let unpolled: String = commands_of_tao()
         .lines()
         .filter(|line| line.split(' ').count() == 10)
         .map(|line| {
