@@ -3,13 +3,13 @@ use mathlib.Core.List.{List, [], _∷_}
 use Prim.Native.Nat.{ℕ}
 use types.Run.{OneOf, miss}
 use denote.Enum.Declared.{tagOf}
-use lib.Dec.{ltb}
+use lib.ListN.{take, drop}
 use Rattle.mmc.specs.declared.order.Order.{Order}
 use Rattle.recorder.specs.declared.script.Op.{Op}
 use Rattle.recorder.specs.declared.replies.DiscInformation.{DiscInformation}
 use Rattle.recorder.specs.declared.rules.Verdict.{Verdict}
 use Rattle.recorder.specs.declared.rules.Verdict.the-variants as D
-use Rattle.recorder.specs.Rules.{otherProfile, mixedOrKept, shortTrack, overlong, used, notErasable, onward, Test, test, tested, judgementIn, erasingTests, erasingIf, refusedBy}
+use Rattle.recorder.specs.Rules.{used, onward, Test, tested, judgementIn, erasingTests, erasingIf, refusedBy}
 use Rattle.recorder.proofs.Lists.{clash, passed-clear, refused-first, passed-first}
 use borrow.Author.Needs.{needs}
 use Rattle.recorder.proofs.rules.Verdict.{the-type}
@@ -27,7 +27,7 @@ not-onward (D.Failed s) h e = clash (cc)
 
 -- 5 to 10
 abbrev early : Order → ℕ → DiscInformation → List Test
-early o p d = test (otherProfile p) 5 ∷ test (ltb 2 (d .status)) 6 ∷ test (mixedOrKept (o .method) o) 8 ∷ test (shortTrack o) 9 ∷ test (overlong o) 10 ∷ []
+early o p d = take 5 (erasingTests o p d)
 
 abbrev start : tie.After-first-of → tie.Start
 start c = c .before .before .before .before .before .before
@@ -40,7 +40,7 @@ judged c =
 
 -- 16, and what comes next where it passes
 abbrev last : tie.Start → List Test
-last t = test (notErasable (t .args .profile) (t .args .d)) 16 ∷ []
+last t = drop 5 (erasingTests (t .args .o) (t .args .profile) (t .args .d))
 
 abbrev due : tie.Start → List Op
 due t = erasingIf (used (t .args .d .status))

@@ -13,13 +13,13 @@ returns-2 : tie.Need-returns-2
 unfolding notErasable
 returns-2 c =
     let k = c .before in
-    simp (sym (k .before .is-used .ensures) ∙ not-false _ (k .if1 .left), ne-eqb _ 0x000A (c .if2 .taken))
+    simp (sym (k .before .is-used .ensures) ∙ not-false _ (k .if1 .left), ne-eqb _ _ (c .if2 .taken))
 
 returns-3 : tie.Need-returns-3
 unfolding notErasable
 returns-3 c =
     let k = c .before .before in
-    simp (sym (k .before .is-used .ensures) ∙ not-false _ (k .if1 .left), eq-eqb _ 0x000A (c .before .if2 .left))
+    simp (sym (k .before .is-used .ensures) ∙ not-false _ (k .if1 .left), eq-eqb _ _ (c .before .if2 .left))
 
 pub not-erasable-spec : {M : Type 1} → statement M
 not-erasable-spec = tie.close (tie.spec (λ c κs. search needs) returns returns-2 returns-3)
