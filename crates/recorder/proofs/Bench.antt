@@ -49,6 +49,7 @@ erase-sheets =
       erase-fails = refl;
       polled = refl;
       counts = refl;
+      said = refl;
       forged = refl;
     }
 

@@ -1,7 +1,7 @@
 -- Document 01's "Sheets from the bench", those of the layouts taken in, and cases of document 02, as one statement about the definitions.
 use mathlib.Core.Path.{_≡_}
 use mathlib.Core.Bool.{Bool, true, false}
-use mathlib.Core.List.{List, [], _∷_, _++_}
+use mathlib.Core.List.{List, [], _∷_, _++_, map}
 use Prim.Native.Nat.{ℕ, _-_}
 use lib.ListN.{length, getD, take, drop, replicate}
 use Rattle.mmc.specs.Bench as Layouts
@@ -20,7 +20,7 @@ use Rattle.recorder.specs.declared.script.Op.{Op}
 use Rattle.recorder.specs.declared.script.Op.the-variants.{ModeSelect, SendCueSheet, CloseSession, Blank, TestUnitReady, RequestSense}
 use Rattle.recorder.specs.Script.{script, write as writing}
 use Rattle.recorder.specs.Replies.{noSense}
-use Rattle.recorder.specs.Exchanges.{Exchange, progress}
+use Rattle.recorder.specs.Exchanges.{Exchange, progress, erased, unblank}
 use Rattle.recorder.specs.Rules.{Found, none, found, refusal, ruled, play}
 use Rattle.recorder.specs.declared.job.Poll.{Poll}
 use Rattle.recorder.specs.declared.job.Poll.the-variants.{Off, Ready, Sense}
@@ -257,8 +257,12 @@ duePolled ys = getD (givenIn (immediate (flagged (order Tao (300 ∷ [])))) (rw 
 abbrev pub anew : Method → Reply → ℕ
 anew m y = wiping m (300 ∷ []) (rw 0x12 ∷ rw 0x12 ∷ good ∷ y ∷ [])
 
-abbrev pub renewed : Reply → ℕ
-renewed y = wiping Tao (300 ∷ []) (rw 0x12 ∷ rw 0x12 ∷ good ∷ rw 0x10 ∷ y ∷ [])
+abbrev pub renewed : Method → Reply → ℕ
+renewed m y = wiping m (300 ∷ []) (rw 0x12 ∷ rw 0x12 ∷ good ∷ rw 0x10 ∷ y ∷ [])
+
+-- the exchanges from the A1h of a track at once of 300 blocks on
+abbrev pub discSaid : List Reply → List Exchange
+discSaid ys = played (flagged (order Tao (300 ∷ []))) (rw 0x12 ∷ rw 0x12 ∷ ys)
 
 pub record EraseSheets : Type 0 where
   -- A1h after the first 51h, 01h in byte 1, and 11h with flag bit 2; then 51h, and 52h
@@ -276,10 +280,15 @@ pub record EraseSheets : Type 0 where
       ∷ (0x52 ∷ 0x01 ∷ 0 ∷ 0 ∷ 0 ∷ 0xFF ∷ 0 ∷ 0 ∷ 48 ∷ 0 ∷ [])
       ∷ []
   -- status 1 and 2 are erased, in TAO an appendable disc too, "though it could take the job"; a blank disc is not, "whatever its profile and
-  -- Erasable"; nor is any without the flag
+  -- Erasable"; nor is any without the flag, and its 51h is not judged: 52h comes whatever order, profile and status
   pub used : dueIn (twice (rw 0x11)) ∷ dueIn (twice (rw 0x12)) ∷ [] ≡ 0xA1 ∷ 0xA1 ∷ []
   pub blank : dueIn (twice (rw 0x10)) ∷ dueIn (twice (rw 0x00)) ∷ dueIn (twice (cd-r 0x10)) ∷ dueIn (twice (cd-r 0x00)) ∷ [] ≡ replicate 4 0x52
-  pub unflagged : take 1 (givenIn (order Tao (300 ∷ [])) (twice (rw 0x11))) ∷ take 1 (givenIn (order Sao (300 ∷ [])) (twice (rw 0x12))) ∷ [] ≡ (0x52 ∷ []) ∷ (0x52 ∷ []) ∷ []
+  pub unflagged :
+      take 1 (givenIn (order Tao (300 ∷ [])) (twice (rw 0x11)))
+      ∷ take 1 (givenIn (order Sao (300 ∷ [])) (twice (rw 0x12)))
+      ∷ take 1 (givenIn (orderOf Sao true (audio (449850 ∷ 299 ∷ []))) (twice (saying 0x13 0 0x0B 0 0)))
+      ∷ []
+      ≡ replicate 3 (0x52 ∷ [])
   -- 16: a CD-R, and a CD-RW whose bit 4 is clear, whatever the bits beside it
   pub not-erasable :
       wiping Tao (300 ∷ []) (twice (cd-r 0x11))
@@ -321,18 +330,21 @@ pub record EraseSheets : Type 0 where
       ≡ 0 ∷ 0 ∷ 10 ∷ 0 ∷ 10 ∷ []
   -- the second 51h: 4, and 6 for all but blank, in TAO too; "Erasable isn't judged again"
   pub again : anew Tao (rw 0x11) ∷ anew Tao (rw 0x12) ∷ anew Tao (rw 0x13) ∷ anew Sao (rw 0x11) ∷ anew Tao (rw 0x20) ∷ anew Tao (cut 33 (rw 0x10)) ∷ anew Tao (rw 0x00) ∷ anew Sao (rw 0x10) ∷ [] ≡ 6 ∷ 6 ∷ 6 ∷ 6 ∷ 4 ∷ 4 ∷ 0 ∷ 0 ∷ []
-  -- the 52h of such a job: 4, 7, 10, also without an erasing
+  -- the 52h of such a job: 4, 7, 10, in this order, by the method, also without an erasing
   pub at-52 :
-      renewed (cut 27 (cd-r 0x10))
-      ∷ renewed (saying 0x10 0x20 9 0 300)
-      ∷ renewed (rw 0x10)
-      ∷ renewed (plain 0x10 0 299)
-      ∷ renewed (plain 0x10 449550 300)
-      ∷ renewed (plain 0x10 449549 300)
+      renewed Tao (cut 27 (cd-r 0x10))
+      ∷ renewed Tao (saying 0x10 0x20 9 0 299)
+      ∷ renewed Tao (rw 0x10)
+      ∷ renewed Tao (plain 0x10 0 299)
+      ∷ renewed Tao (plain 0x10 449550 300)
+      ∷ renewed Tao (plain 0x10 449549 300)
+      ∷ renewed Sao (saying 0x10 0x20 9 0 300)
+      ∷ renewed Sao (plain 0x10 0 299)
+      ∷ renewed Sao (rw 0x10)
       ∷ wiping Tao (300 ∷ []) (rw 0x10 ∷ rw 0x10 ∷ saying 0x10 0x20 9 0 300 ∷ [])
       ∷ wiping Tao (300 ∷ []) (rw 0x10 ∷ rw 0x10 ∷ plain 0x10 0 299 ∷ [])
       ∷ []
-      ≡ 4 ∷ 7 ∷ 7 ∷ 10 ∷ 10 ∷ 0 ∷ 7 ∷ 10 ∷ []
+      ≡ 4 ∷ 7 ∷ 7 ∷ 10 ∷ 10 ∷ 0 ∷ 7 ∷ 10 ∷ 0 ∷ 7 ∷ 10 ∷ []
   -- A1h: busy, the same again; failed, 12, not ready too
   pub erase-fails :
       dueIn (rw 0x12 ∷ rw 0x12 ∷ unready 0x70 0x08 ∷ [])
@@ -358,6 +370,11 @@ pub record EraseSheets : Type 0 where
       ∷ length (played (flagged (order Sao (300 ∷ []))) (replicate 60 (rw 0x10)))
       ∷ []
       ≡ 28 ∷ 37 ∷ 26 ∷ 35 ∷ []
+  -- the disc counts as not blank from the A1h on that is given, until a 51h says blank, and as erased once one was answered good
+  pub said :
+      map unblank (discSaid (unready 0x70 0x08 ∷ []) ∷ discSaid (good ∷ []) ∷ discSaid (good ∷ rw 0x11 ∷ []) ∷ discSaid (good ∷ rw 0x10 ∷ []) ∷ [])
+      ++ map erased (discSaid [] ∷ discSaid (unready 0x70 0x08 ∷ []) ∷ discSaid (good ∷ []) ∷ discSaid (good ∷ rw 0x10 ∷ []) ∷ [])
+      ≡ (replicate 3 true ++ (false ∷ [])) ++ (replicate 2 false ++ replicate 2 true)
   -- no forged state waits at A1h without flag bit 3, or polls it without flag bit 2
   pub forged :
       passes (order Tao (300 ∷ [])) Blank 0
