@@ -25,6 +25,16 @@ use Rattle.recorder.proofs.Scripts.{Past, script-past, script-length, s
 use Rattle.recorder.proofs.Rulings.{unrefused-last, ruled-at, plan-shape, rule-done, due-poll}
 use Rattle.recorder.proofs.Erasing.{Facts, facts, Stage, first, asked, wiping, asking, hearing, anew, past, not-erasing, stage, rightly-erased}
 
+abbrev pub isEnd : Ruling → Bool
+isEnd (issue c) = false
+isEnd done = true
+isEnd (stop w) = true
+
+pub not-going : (a : Ruling) → isEnd a ≡ true → ending a ≡ going → ⊥
+not-going (issue c) t e = false-true t
+not-going done t e = clash (cc)
+not-going (stop w) t e = clash (cc)
+
 -- ---- each reply makes an exchange until the end
 
 pub record Timed (q : Outcome Order) (k : ℕ) (es : List Exchange) : Type 0 where
@@ -36,8 +46,8 @@ timed-turn q k es y t = go (ruled q es) refl
   where
     go : (a : Ruling) → ruled q es ≡ a → Timed q (suc k) (exchanged a y es)
     go (issue c) e = let i = t .exact (ap ending e) in record { at-most = omega arith; exact = λ z. omega arith }
-    go done e = let m = t .at-most in record { at-most = omega arith; exact = λ z. clash (cc) }
-    go (stop w) e = let m = t .at-most in record { at-most = omega arith; exact = λ z. clash (cc) }
+    go done e = let m = t .at-most in record { at-most = omega arith; exact = λ z. absurd (not-going done refl (ap ending (sym e) ∙ z)) }
+    go (stop w) e = let m = t .at-most in record { at-most = omega arith; exact = λ z. absurd (not-going (stop w) refl (ap ending (sym e) ∙ z)) }
 
 timed-on : (o : Order) (rs : List Reply) (k : ℕ) (es : List Exchange) → Timed (pass o) k es → Timed (pass o) (k + length rs) (play (pass o) es rs)
 timed-on o [] k es t = let e : k ≡ k + 0 = omega arith in subst (λ (j : ℕ). Timed (pass o) j es) e t
@@ -107,20 +117,20 @@ erased-more o es x l y p e g = go (isErasing x) refl (y .good) refl
     go false i true j = omega arith
     go false i false j = omega arith
 
+-- the numbers of one reply more: answered (u), left (c), A1h answered (k) and left (e), before and after
+sum-up : (s u v w c d m n k j i e f g h : ℕ) → u + c ≡ s + 2 * (k + e) → c ≡ m → e ≡ g → d ≡ n → f ≡ h → n + w + 2 * g ≡ m + 2 * (i + h) → v ≡ u + w → j ≡ i + k → v + d ≡ s + 2 * (j + f)
+sum-up s u v w c d m n k j i e f g h p0 p1 p2 p3 p4 p5 p6 p7 = omega arith
+
 -- what is answered and what is left are together the script, and 2 more for an erasing
 all-taken : (o : Order) (es : List Exchange) → Played o es → AllWell es → firstRefused o es ≡ none → unpolled (answered es) + counted (left o es) ≡ counted (script o) + 2 * (one (erased es) + erasings (left o es))
 all-taken o es nothing g v = let a = none-past (beforeTracks o (eachTrack o 0 (tracksIn o))) (script-past o) in omega arith
 all-taken o es (then {es = before} {x = x} {l = l} p u e y) g v =
     let j : Judgement = judged o before (made o before x y) in
-    let i = all-taken o before p (g .1) u in
-    let a : counted (left o before) ≡ counted (x ∷ l) = ap counted e in
-    let a' : erasings (left o before) ≡ erasings (x ∷ l) = ap erasings e in
-    let b : counted (left o (made o before x y ∷ before)) ≡ counted (move j (x ∷ l)) = ap (λ (m : List Op). counted (move j m)) e in
-    let b' : erasings (left o (made o before x y ∷ before)) ≡ erasings (move j (x ∷ l)) = ap (λ (m : List Op). erasings (move j m)) e in
-    let c = taken-turn _ (y .good) _ x l _ (turn o before x y) (g .0) (unrefused-last o before (made o before x y) u v) in
-    let d : unpolled (answered (made o before x y ∷ before)) ≡ unpolled (answered before) + weight x = weighed (isPoll x) (unpolled (answered before)) in
-    let f = erased-more o before x l y p e (g .0) in
-    omega arith
+    sum-up _ _ _ (weight x) _ _ (counted (x ∷ l)) (counted (move j (x ∷ l))) (one (erased before)) _ (one (isErasing x)) _ _ (erasings (x ∷ l)) (erasings (move j (x ∷ l)))
+    (all-taken o before p (g .1) u) (ap counted e) (ap erasings e) (ap (λ (m : List Op). counted (move j m)) e) (ap (λ (m : List Op). erasings (move j m)) e)
+    (taken-turn _ (y .good) _ x l _ (turn o before x y) (g .0) (unrefused-last o before (made o before x y) u v))
+    (weighed (isPoll x) (unpolled (answered before)))
+    (erased-more o before x l y p e (g .0))
 
 -- where an A1h is due, more than it and its 51h is left
 some-left : (l : List Op) → Scripted l → Unclosed l → 1 ≤ counted l

@@ -25,20 +25,20 @@ use Rattle.recorder.specs.Exchanges.{Exchange, recorded, occupied, polli
 use Rattle.recorder.specs.Rules.{left, none, found, refusal, ruled, exchanged, play, orderedIn, AllClosed}
 use Rattle.recorder.specs.Job.{Next, nextIn, dueAt, commandOf, mostCommands, latestProgress, unchanged, validOf, takenAs, takeOf, giveOf}
 use Rattle.recorder.specs.History.{History, taken, given, givenAll, history, commandIn, commands, going, as-done, as-stop, ending, ended, phaseIn, Accompanied, OfAnswer, Every, Fresh, Unskipped, RightlyErased, ErasesRightly, BlankBefore, WritesOnBlank, exactCount, AllWell, unpolled, answered, AllGood, Whole, Takes, Gives}
-use Rattle.recorder.proofs.Lists.{if-yes, if-no, clash, false-true}
+use Rattle.recorder.proofs.Lists.{if-yes, if-no, clash, false-true, same-order}
 use Rattle.recorder.proofs.Turns.{Played, nothing, played, progress-seen}
 use Rattle.recorder.proofs.Scripts.{script-length}
 use Rattle.recorder.proofs.Rulings.{ruled-at, rule-order, rule-done, due-poll, each-unskipped, rule-stop}
 use Rattle.recorder.proofs.Erasing.{isLater, rightly-erased, on-blank, each-rightly, each-on-blank}
 use Rattle.recorder.proofs.Apart.{rule-apart}
-use Rattle.recorder.proofs.Goods.{never-polling, no-polls, Progressed, under-way, polled, at-end, rule-good}
+use Rattle.recorder.proofs.Goods.{isEnd, not-going, never-polling, no-polls, Progressed, under-way, polled, at-end, rule-good}
 use Rattle.recorder.proofs.Witness.{can-pass}
 use Rattle.recorder.proofs.Behind.{Sized}
 use Rattle.recorder.proofs.Moves.{at, behindAt, planAt}
-use Rattle.recorder.proofs.Makes.{give-made, take-made}
+use Rattle.recorder.proofs.Leads.{same-command, give-made, take-made}
 use Rattle.recorder.proofs.States.{stood-stands, stood-fresh, stood-accompanied, stood-shows}
 use Rattle.recorder.proofs.Orders.{read-sized}
-use Rattle.recorder.proofs.Steps.{waiting, Going, isEnd, Inv, open-so, over-so, no-exchange, ended-valid, give-over, next-inv}
+use Rattle.recorder.proofs.Steps.{waiting, Going, Inv, open-so, over-so, no-exchange, ended-valid, give-over, next-inv}
 
 -- ---- every list of replies
 
@@ -139,11 +139,6 @@ no-command P (issue c) e = absurd (false-true e)
 no-command P done e = tt
 no-command P (stop w) e = tt
 
-is-over : (a : Ruling) → isEnd a ≡ true → ending a ≡ going → ⊥
-is-over (issue c) e g = false-true e
-is-over done e g = clash (cc)
-is-over (stop w) e g = clash (cc)
-
 module _ (o : Order) (k : ℕ) (x : Op) (p : Poll) (n : ℕ) (xs : List Ruling) (es : List Exchange) (g : Going o k x p n xs es) where
   valid-going : validOf (waiting o x p es n) ≡ true
   unfolding validOf
@@ -182,24 +177,24 @@ latest-of q k h (open-so {o = o} {x = x} {p = p} {n = n} {xs = xs} {es = es} g) 
       so-ended = g .not-ended ∙ ap ending (sym r);
       unmoved = λ z y. absurd (z (g .not-ended));
       made = λ a f c u.
-          let i : o ≡ a = cc in
-          let j : commandOf (at x p (seen (o .method) es)) ≡ c = cc in
+          let i : o ≡ a = same-order o a f in
+          let j : commandOf (at x p (seen (o .method) es)) ≡ c = same-command _ c u in
           ap (λ (z : Order). madeFor (z .immed) (z .count) c) (sym i) ∙ ap (madeFor (o .immed) (o .count)) (sym j) ∙ g .bytes-made;
       accompanied = λ a f c u.
-          let i : o ≡ a = cc in
-          let j : commandOf (at x p (seen (o .method) es)) ≡ c = cc in
+          let i : o ≡ a = same-order o a f in
+          let j : commandOf (at x p (seen (o .method) es)) ≡ c = same-command _ c u in
           subst (λ (z : Order). Accompanied z (c .op)) i (subst (λ (d : Command). Accompanied o (d .op)) j (stood-accompanied o x p (seen (o .method) es) (named es) (g .sized) (g .stood)));
       counts = g .counts;
       reports = refl;
       given-so = g .commands-given ∙ ap (λ (a : Ruling). commandIn a ++ answered es) (sym r);
       fresh = λ a f w.
-          let i : o ≡ a = cc in
+          let i : o ≡ a = same-order o a f in
           let s : stepwise (o .method) ≡ true = ap (λ (z : Order). stepwise (z .method)) i ∙ w in
           (g .fresh s, stood-fresh o x p (seen (o .method) es) (named es) s (g .stood));
-      unskipped = λ a f w. let i : o ≡ a = cc in unskipped-going o k x p n xs es g a i w;
-      rightly = λ a f w. let i : o ≡ a = cc in rightly-going o k x p n xs es g a i w;
-      on-blank = λ a f w. let i : o ≡ a = cc in on-blank-going o k x p n xs es g a i w;
-      shows = λ a f w z. let i : o ≡ a = cc in shows-going o k x p n xs es g a i w;
+      unskipped = λ a f w. let i : o ≡ a = same-order o a f in unskipped-going o k x p n xs es g a i w;
+      rightly = λ a f w. let i : o ≡ a = same-order o a f in rightly-going o k x p n xs es g a i w;
+      on-blank = λ a f w. let i : o ≡ a = same-order o a f in on-blank-going o k x p n xs es g a i w;
+      shows = λ a f w z. let i : o ≡ a = same-order o a f in shows-going o k x p n xs es g a i w;
     }
 latest-of q k h (over-so v) =
     record {
@@ -219,7 +214,7 @@ latest-of q k h (over-so v) =
       unskipped = λ o e w. no-command (Unskipped (o .immed) (h .exchanges)) (h .last .answer) (v .answer-ends);
       rightly = λ o e w. no-command (ErasesRightly o (h .exchanges)) (h .last .answer) (v .answer-ends);
       on-blank = λ o e w. no-command (WritesOnBlank o (h .exchanges)) (h .last .answer) (v .answer-ends);
-      shows = λ o e w z. absurd (is-over (ruled q (h .exchanges)) (v .rules-over) (sym (v .so-ended) ∙ z));
+      shows = λ o e w z. absurd (not-going (ruled q (h .exchanges)) (v .rules-over) (sym (v .so-ended) ∙ z));
     }
 
 -- ---- what the rules say of either kind of order block
@@ -248,6 +243,9 @@ rules-hold (refuse n) rs = subst (Ruled (refuse n)) (sym (refused-plays n rs)) n
           done-when = (λ e. clash (cc), λ e. absurd e);
           stop-when = λ w. (λ e. let x : because n ≡ w = cc in ap found x, λ e. let x : because n ≡ w = cc in ap stop x);
         }
+
+going-done : going ≡ as-done → ⊥
+going-done e = clash (cc)
 
 -- how the job has ended by the rules' answer
 ended-done : (a : Ruling) → (ending a ≡ as-done) ↔ (a ≡ done)
@@ -324,7 +322,7 @@ module _ (b : List ℕ) (rs : List Reply) where
         let a = given-unpolled in
         let i : min (unpolled (answered es) + 1) (exactCount o es) ≡ unpolled (answered es) + 1 = omega arith in
         record {
-          exact = λ y. clash (cc (sym (so-ended ∙ x) ∙ y));
+          exact = λ y. absurd (going-done (sym (so-ended ∙ x) ∙ y));
           given-count = omega arith ∙ sym (if-no _ _ p ∙ i);
           done-at = λ y z. absurd (omega arith);
           not-before = λ y. so-ended ∙ x;
@@ -339,7 +337,7 @@ module _ (b : List ℕ) (rs : List Reply) where
     all-good-by (polled x l p c n) =
         let a = given-unpolled in
         record {
-          exact = λ y. clash (cc (sym (so-ended ∙ x) ∙ y));
+          exact = λ y. absurd (going-done (sym (so-ended ∙ x) ∙ y));
           given-count = omega arith ∙ sym (if-yes _ _ p);
           done-at = λ y z. absurd (false-true (sym z ∙ p));
           not-before = λ y. so-ended ∙ x;
@@ -365,7 +363,7 @@ module _ (b : List ℕ) (rs : List Reply) where
         }
       where
         is-done-over : ending (ruled (pass o) es) ≡ going → ⊥
-        is-done-over y = clash (cc (sym x ∙ y))
+        is-done-over y = going-done (sym y ∙ x)
 
   good-ends : (o : Order) → readOrder b ≡ pass o → AllWell (h .exchanges) → refusal (pass o) (h .exchanges) ≡ none → AllGood o (length rs) (h .exchanges) (h .answers)
   good-ends o e g u =

@@ -10,6 +10,7 @@ pub mod Behind
 pub mod Standing
 pub mod Moves
 pub mod Makes
+pub mod Leads
 pub mod States
 pub mod Orders
 pub mod Steps

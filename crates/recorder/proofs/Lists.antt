@@ -10,7 +10,9 @@ use lib.ListN.{length, getD, length-append, List·getD-append}
 use lib.Seq.{getD-append-seam}
 use Rattle.mmc.specs.Bytes.{if}
 use Rattle.mmc.specs.Times.{leadFrames, framesTo, addressAt}
+use Rattle.mmc.specs.Refusals.{pass}
 use Rattle.mmc.specs.declared.units.FrameCount.{FrameCount}
+use Rattle.mmc.specs.declared.order.Order.{Order}
 use Rattle.recorder.specs.Answers.{Why, because}
 use Rattle.recorder.specs.declared.script.Op.{Op}
 use Rattle.recorder.specs.Script.{Block, blocks, gather}
@@ -42,6 +44,9 @@ neither false b e = (refl, e)
 
 pub none-found : (w : Why) → none ≡ found w → ⊥
 none-found w e = clash (cc)
+
+pub same-order : (o p : Order) → pass o ≡ pass p → o ≡ p
+same-order o p e = cc
 
 -- an address comes back to its frames
 pub frames-back : (f : FrameCount) → framesTo (addressAt f) .0 ≡ f .0

@@ -1,8 +1,8 @@
--- Of every state that passes the recorder's own test: the bytes of the command that a reply leads to are those of its maker, which
--- refuses none.
+-- What the makers of the commands need, and that an operation at which a state passes the recorder's own test has it, and so has the one
+-- after it.
 use mathlib.Core.Path.{_≡_, refl, sym, ap, subst, _∙_}
 use mathlib.Core.Bool.{Bool, true, false, not, cond, _&&_}
-use mathlib.Core.List.{List, [], _∷_}
+use mathlib.Core.List.{List, []}
 use Prim.Native.Nat.{ℕ, suc, _+_, _-_, _*_, _%_, _≤_, _<_}
 use native.Mathlib.Omega.{arith}
 use borrow.Author.Tests.{lt-ltb, le-leb, eq-eqb, leb-true, ltb-true, eqb-true}
@@ -17,33 +17,25 @@ use Rattle.mmc.specs.Order.{mostTracks}
 use Rattle.mmc.specs.Times.{lastAddress, inRange, addressAt}
 use Rattle.mmc.specs.Sheet.{sheetSize}
 use Rattle.mmc.specs.Commands.{sendCueSheet, writeRange, writeBytes, writeCommand, closeTrackSession}
-use Rattle.mmc.specs.ReplyBlock.{replyOf}
 use Rattle.mmc.specs.declared.units.BlockCount.{BlockCount}
 use Rattle.mmc.specs.declared.units.FrameCount.{FrameCount}
-use Rattle.mmc.specs.declared.order.Order.{Order}
 use Rattle.mmc.specs.declared.order.Method.{Method}
 use Rattle.mmc.specs.declared.order.Method.the-variants.{Tao, Sao}
 use Rattle.recorder.specs.declared.script.Op.{Op}
 use Rattle.recorder.specs.declared.script.Op.the-variants.{GetConfiguration, ReadDiscInformation, ReadTrackInformation, ModeSelect, SendCueSheet, Write, SynchronizeCache, CloseTrack, CloseSession, Blank, TestUnitReady, RequestSense}
 use Rattle.recorder.specs.declared.places.Following.{Following}
 use Rattle.recorder.specs.declared.places.Following.the-variants.{Next as Then, Nothing}
-use Rattle.recorder.specs.declared.answers.Command.{Command}
 use Rattle.recorder.specs.declared.replies.Reading.{Reading}
 use Rattle.recorder.specs.declared.replies.Reading.the-variants.{Unread}
 use Rattle.recorder.specs.declared.exchanges.Seen.{Seen}
-use Rattle.recorder.specs.declared.job.Poll.{Poll}
-use Rattle.recorder.specs.declared.job.Poll.the-variants.{Off, Ready, Sense}
-use Rattle.recorder.specs.declared.job.Progress.{Progress}
-use Rattle.recorder.specs.declared.job.Recorder.{Recorder}
-use Rattle.recorder.specs.Answers.{issue, sheetBytes, madeBy, madeFor, cdbOf, bytesIn}
-use Rattle.recorder.specs.Replies.{reading}
-use Rattle.recorder.specs.Script.{isPoll, takesImmed, write, portion, trackIn, stepwise}
+use Rattle.recorder.specs.Answers.{sheetBytes, madeBy, cdbOf, bytesIn}
+use Rattle.recorder.specs.Script.{takesImmed, write, portion, stepwise}
 use Rattle.recorder.specs.Exchanges.{see}
-use Rattle.recorder.specs.Rules.{lastFrame, Judgement, again, onward, refused, judge}
-use Rattle.recorder.specs.Places.{pieceEnded, beforeBlock, afterCloseTrack, opAfter, pieceOf, afterIn}
-use Rattle.recorder.specs.Job.{dueAt, dueIn, commandOf, Turn, goes, finish, halt, advanced, aside, turnBy, turnOf, stepOf, inOrder, inTime, inPiece, isWrite, standsAt, standsIn, standsPolled, standsErasing, stands, unchanged, restsAt, opening, giveOf}
+use Rattle.recorder.specs.Rules.{lastFrame}
+use Rattle.recorder.specs.Places.{pieceEnded, beforeBlock, afterCloseTrack, opAfter}
+use Rattle.recorder.specs.Job.{goes, inOrder, inTime, inPiece, isWrite, standsAt}
 use Rattle.recorder.proofs.Lists.{if-yes, false-true, both, clash}
-use Rattle.recorder.proofs.Turns.{Asks, a46, a51, a52, a03, isAsking, Reads, busy, not-ready, failed, malformed, profile, status, information, indication, ready, unread, reads}
+use Rattle.recorder.proofs.Turns.{Asks, a46, a51, a52, a03, isAsking, Reads, malformed, profile, status, information, indication, ready, unread}
 
 -- ---- what the makers need
 
@@ -122,7 +114,7 @@ of-piece l f c at e =
     let q = both (eqb c (portion l f)) _ (p .1) in
     record { within = ltb-true _ _ (p .0); part = eqb-true _ _ (q .0); limit = leb-true _ _ (q .1) }
 
-own-by : (m : Method) (n l k : ℕ) (at : FrameCount) (x : Op) → 1 ≤ n → n ≤ mostTracks → standsAt m n l k at x ≡ true → Makes n x at
+pub own-by : (m : Method) (n l k : ℕ) (at : FrameCount) (x : Op) → 1 ≤ n → n ≤ mostTracks → standsAt m n l k at x ≡ true → Makes n x at
 own-by m n l k at GetConfiguration a b e = tt
 own-by m n l k at ReadDiscInformation a b e = tt
 own-by m n l k at (ReadTrackInformation t) a b e = tt
@@ -183,13 +175,13 @@ block-due : (m : Method) (n l k t f : ℕ) → f < l → beforeBlock m n l k t f
 unfolding beforeBlock
 block-due m n l k t f h = if-yes _ _ (lt-ltb _ _ h)
 
-abbrev MakesThen : ℕ → Following → FrameCount → Type 0
+abbrev pub MakesThen : ℕ → Following → FrameCount → Type 0
 MakesThen n (Then x) at = Makes n x at
 MakesThen n Nothing at = Unit {0}
 
 module _ (n k : ℕ) (v : Seen) (a : 1 ≤ n) (b : n ≤ mostTracks) where
   -- the reply is not read
-  on-unread : (m : Method) (l : ℕ) (x : Op) → (x ≡ SendCueSheet → 0 < l) → standsAt m n l k (v .at) x ≡ true → isAsking x ≡ false → MakesThen n (opAfter m n l k x) (see m x Unread v .at)
+  pub on-unread : (m : Method) (l : ℕ) (x : Op) → (x ≡ SendCueSheet → 0 < l) → standsAt m n l k (v .at) x ≡ true → isAsking x ≡ false → MakesThen n (opAfter m n l k x) (see m x Unread v .at)
   unfolding afterCloseTrack inTime
   on-unread m l GetConfiguration p e q = tt
   on-unread m l ReadDiscInformation p e q = tt
@@ -222,7 +214,7 @@ module _ (n k : ℕ) (v : Seen) (a : 1 ≤ n) (b : n ≤ mostTracks) where
   on-unread m l RequestSense p e q = absurd (false-true e)
 
   -- after an asking operation nothing is needed
-  on-asking : (m : Method) (l : ℕ) (x : Op) (at : FrameCount) → isAsking x ≡ true → MakesThen n (opAfter m n l k x) at
+  pub on-asking : (m : Method) (l : ℕ) (x : Op) (at : FrameCount) → isAsking x ≡ true → MakesThen n (opAfter m n l k x) at
   on-asking m l GetConfiguration at q = tt
   on-asking m l ReadDiscInformation at q = tt
   on-asking m l (ReadTrackInformation t) at q = tt
@@ -237,7 +229,7 @@ module _ (n k : ℕ) (v : Seen) (a : 1 ≤ n) (b : n ≤ mostTracks) where
   on-asking m l RequestSense at q = tt
 
   -- nor after one that takes Immed, wherever the next block goes
-  on-closed : (m : Method) (l : ℕ) (x : Op) (at : FrameCount) → takesImmed x ≡ true → MakesThen n (opAfter m n l k x) at
+  pub on-closed : (m : Method) (l : ℕ) (x : Op) (at : FrameCount) → takesImmed x ≡ true → MakesThen n (opAfter m n l k x) at
   unfolding afterCloseTrack
   on-closed m l GetConfiguration at q = absurd (false-true q)
   on-closed m l ReadDiscInformation at q = absurd (false-true q)
@@ -256,106 +248,3 @@ module _ (n k : ℕ) (v : Seen) (a : 1 ≤ n) (b : n ≤ mostTracks) where
   on-closed m l Blank at q = tt
   on-closed m l TestUnitReady at q = absurd (false-true q)
   on-closed m l RequestSense at q = absurd (false-true q)
-
--- ---- a reply to such a state
-
-abbrev MakesTurn : ℕ → Turn → Type 0
-MakesTurn n (goes t) = Makes n (dueIn t) (t .seen .at)
-MakesTurn n finish = Unit {0}
-MakesTurn n (halt w) = Unit {0}
-
-advanced-made : (n : ℕ) (f : Following) (u : Seen) → MakesThen n f (u .at) → MakesTurn n (advanced f u)
-advanced-made n (Then y) u h = h
-advanced-made n Nothing u h = tt
-
--- nothing is needed for a poll or A1h
-aside-made : (n : ℕ) (b : Bool) (x : Op) (v : Seen) → MakesTurn n (goes (aside b x v))
-aside-made n true x v = tt
-aside-made n false x v = tt
-
--- no failed reply leads onward, but to 00h
-failed-asks : (o : Order) (v : Seen) (x : Op) (g : Bool) (r : Reading) (xs : List Op) → Reads x g r → g ≡ false → judge o v x r ≡ onward xs → x ≡ TestUnitReady
-failed-asks o v x g r xs (busy n) f q = clash (cc)
-failed-asks o v x g r xs not-ready f q = refl
-failed-asks o v x g r xs failed f q = clash (cc)
-failed-asks o v x g r xs (malformed a) f q = absurd (false-true (sym f))
-failed-asks o v x g r xs profile f q = absurd (false-true (sym f))
-failed-asks o v x g r xs status f q = absurd (false-true (sym f))
-failed-asks o v x g r xs information f q = absurd (false-true (sym f))
-failed-asks o v x g r xs indication f q = absurd (false-true (sym f))
-failed-asks o v x g r xs ready f q = refl
-failed-asks o v x g r xs (unread u n) f q = absurd (false-true (sym f))
-
-module _ (o : Order) (x : Op) (v : Seen) (e : standsIn (o .method) (o .count) (pieceOf o (trackIn x)) (pieceOf o (suc (trackIn x))) (v .at) x ≡ true) where
-  standing : (1 ≤ o .count) × ((o .count ≤ mostTracks) × (standsAt (o .method) (o .count) (pieceOf o (trackIn x)) (pieceOf o (suc (trackIn x))) (v .at) x ≡ true))
-  unfolding standsIn
-  standing =
-      let p = both (leb 1 (o .count)) _ e in
-      let q = both (leb (o .count) mostTracks) _ (p .1) in
-      (leb-true _ _ (p .0), (leb-true _ _ (q .0), q .1))
-
-  pause-long : x ≡ SendCueSheet → 0 < pieceOf o (trackIn x)
-  pause-long p = subst (λ (y : Op). 0 < pieceOf o (trackIn y)) (sym p) (omega arith)
-
-  -- a good reply
-  next-made : (r : Reading) → Reads x true r → MakesThen (o .count) (afterIn o x) (see (o .method) x r v .at)
-  next-made r w = go (isAsking x) refl
-    where
-      go : (b : Bool) → isAsking x ≡ b → MakesThen (o .count) (afterIn o x) (see (o .method) x r v .at)
-      go true q = on-asking (o .count) _ v (standing .0) (standing .1 .0) (o .method) _ x _ q
-      go false q =
-          subst (λ (k : Reading). MakesThen (o .count) (afterIn o x) (see (o .method) x k v .at)) (sym (not-read x r q w))
-          (on-unread (o .count) _ v (standing .0) (standing .1 .0) (o .method) _ x pause-long (standing .1 .1) q)
-
-  -- the job has no place at 00h
-  no-place : x ≡ TestUnitReady → ⊥
-  no-place p = false-true (subst (λ (y : Op). standsAt (o .method) (o .count) (pieceOf o (trackIn x)) (pieceOf o (suc (trackIn x))) (v .at) y ≡ true) p (standing .1 .1))
-
-  turn-made : (p : Poll) → standsPolled (o .immed) x p ≡ true → (g : Bool) (r : Reading) (j : Judgement) → Reads (dueAt x p) g r → judge o v (dueAt x p) r ≡ j → MakesTurn (o .count) (turnBy j o (record { place = x; poll = p; seen = v }) r)
-  turn-made Off c g r again w q = own-by (o .method) (o .count) _ _ (v .at) x (standing .0) (standing .1 .0) (standing .1 .1)
-  turn-made Off c true r (onward []) w q = advanced-made (o .count) (afterIn o x) (see (o .method) x r v) (next-made r w)
-  turn-made Off c false r (onward []) w q = absurd (no-place (failed-asks o v x false r [] w refl q))
-  turn-made Off c g r (onward (y ∷ ys)) w q = aside-made (o .count) (isPoll y) x _
-  turn-made Off c g r (refused y) w q = tt
-  turn-made Ready c g r again w q = tt
-  turn-made Ready c g r (onward []) w q = tt
-  turn-made Ready c g r (onward (y ∷ ys)) w q = aside-made (o .count) (isPoll y) x _
-  turn-made Ready c g r (refused y) w q = tt
-  turn-made Sense c g r again w q = tt
-  turn-made Sense c g r (onward []) w q =
-      advanced-made (o .count) (afterIn o x) (see (o .method) RequestSense r v) (on-closed (o .count) _ v (standing .0) (standing .1 .0) (o .method) _ x _ (both (takesImmed x) _ c .0))
-  turn-made Sense c g r (onward (y ∷ ys)) w q = aside-made (o .count) (isPoll y) x _
-  turn-made Sense c g r (refused y) w q = tt
-
--- the command that is given has its maker's bytes
-step-made : (o : Order) (s : Progress) (n : ℕ) (t : Turn) → MakesTurn (o .count) t → (c : Command) → stepOf o s n t .answer ≡ issue c → madeFor (o .immed) (o .count) c ≡ pass (bytesIn (stepOf o s n t .cdb))
-step-made o s n (goes u) h c e =
-    let q : commandOf u ≡ c = cc in
-    ap (madeFor (o .immed) (o .count)) (sym q) ∙ made-by (o .immed) (o .count) (dueIn u) (u .seen .at) h
-step-made o s n finish h c e = clash (cc)
-step-made o s n (halt w) h c e = clash (cc)
-
-pub give-made : (r : Recorder) (good : Bool) (d : List ℕ) (c : Command) → giveOf r good d .answer ≡ issue c → madeFor (r .order .immed) (r .order .count) c ≡ pass (bytesIn (giveOf r good d .cdb))
-unfolding giveOf
-give-made r good d c = go (restsAt (r .phase)) (stands (r .order) (r .progress)) refl
-  where
-    s : Progress
-    s = r .progress
-
-    t : Turn
-    t = turnOf (r .order) s (reading (dueIn s) (replyOf good d))
-
-    go : (a b : Bool) → stands (r .order) s ≡ b →
-        if a (unchanged r 13) (if b (stepOf (r .order) s (r .count) t) (unchanged r 3)) .answer ≡ issue c →
-        madeFor (r .order .immed) (r .order .count) c ≡ pass (bytesIn (if a (unchanged r 13) (if b (stepOf (r .order) s (r .count) t) (unchanged r 3)) .cdb))
-    go true b q e = clash (cc)
-    go false false q e = clash (cc)
-    go false true q e =
-        let p = both (standsPolled (r .order .immed) (s .place) (s .poll)) _ q in
-        let i = both (standsErasing (r .order .erase) (s .place)) _ (p .1) in
-        step-made (r .order) s (r .count) t
-        (turn-made (r .order) (s .place) (s .seen) (i .1) (s .poll) (p .0) good (reading (dueIn s) (replyOf good d)) _ (reads (dueIn s) (replyOf good d)) refl) c e
-
--- and the first one
-pub take-made : (o : Order) (n : ℕ) (c : Command) → stepOf o opening n (goes opening) .answer ≡ issue c → madeFor (o .immed) (o .count) c ≡ pass (bytesIn (stepOf o opening n (goes opening) .cdb))
-take-made o n c e = let q : commandOf opening ≡ c = cc in ap (madeFor (o .immed) (o .count)) (sym q) ∙ made-by (o .immed) (o .count) GetConfiguration (record { 0 = 0 }) tt

@@ -1,6 +1,6 @@
 -- One reply more: while the job goes on it does what the rules say, and once it has ended nothing changes.
 use mathlib.Core.Path.{_≡_, refl, sym, ap, subst, _∙_}
-use mathlib.Core.Bool.{Bool, true, false}
+use mathlib.Core.Bool.{Bool, true}
 use mathlib.Core.List.{List, [], _∷_, _++_}
 use Prim.Native.Nat.{ℕ, suc, _+_, _≤_, _<_, min}
 use native.Mathlib.Omega.{arith}
@@ -22,13 +22,14 @@ use Rattle.recorder.specs.Exchanges.{Exchange, seen, named}
 use Rattle.recorder.specs.Rules.{judged, move, left, none, found, refusedBy, firstRefused, ruled, exchanged}
 use Rattle.recorder.specs.Job.{Next, dueAt, commandOf, Turn, goes, turnOf, mostCommands, oneMore, stateOf, nextOf, phaseOf, stepOf, unchanged, stands, restsAt, validOf, giveOf}
 use Rattle.recorder.specs.History.{History, given, commandIn, commands, Ending, going, as-done, as-stop, ending, sooner, ended, phaseIn, Each, Fresh, answered}
-use Rattle.recorder.proofs.Lists.{clash, if-yes, false-true}
+use Rattle.recorder.proofs.Lists.{if-yes, false-true, same-order}
 use Rattle.recorder.proofs.Turns.{made, Played, then}
 use Rattle.recorder.proofs.Rulings.{refused-next, ruled-at, ruled-stop}
 use Rattle.recorder.proofs.Erasing.{was-recordable}
+use Rattle.recorder.proofs.Goods.{isEnd, not-going}
 use Rattle.recorder.proofs.Behind.{Sized}
 use Rattle.recorder.proofs.Moves.{at, behindAt, planAt, Stood, Moved, on-to, stops, ends, moved}
-use Rattle.recorder.proofs.Makes.{give-made}
+use Rattle.recorder.proofs.Leads.{give-made}
 use Rattle.recorder.proofs.States.{stood-stands, stood-fresh}
 
 -- the job that waits for the reply to an operation's command
@@ -51,11 +52,6 @@ pub record Going (o : Order) (k : ℕ) (x : Op) (p : Poll) (n : ℕ) (xs : List 
   pub each : length es ≡ k
   pub fresh : stepwise (o .method) ≡ true → Each Fresh es
   pub played : Played o es
-
-abbrev pub isEnd : Ruling → Bool
-isEnd (issue c) = false
-isEnd done = true
-isEnd (stop w) = true
 
 -- after k replies: the job has ended
 pub record Over (q : Outcome Order) (k : ℕ) (h : History) : Type 0 where
@@ -88,11 +84,6 @@ ended-stays : (x y : Ending) → (x ≡ going → ⊥) → sooner x y ≡ x
 ended-stays going y n = absurd (n refl)
 ended-stays as-done y n = refl
 ended-stays (as-stop w) y n = refl
-
-not-going : (a : Ruling) → isEnd a ≡ true → ending a ≡ going → ⊥
-not-going (issue c) t e = false-true t
-not-going done t e = clash (cc)
-not-going (stop w) t e = clash (cc)
 
 -- ---- the step of a valid state that goes on, and of one that has ended
 
@@ -203,7 +194,7 @@ module _ (o : Order) (k : ℕ) (x : Op) (p : Poll) (n : ℕ) (xs : List Ruling) 
       }
     where
       same-stepwise : (p : Order) → pass o ≡ pass p → stepwise (p .method) ≡ true → stepwise (o .method) ≡ true
-      same-stepwise p q w = let i : o ≡ p = cc in ap (λ (m : Order). stepwise (m .method)) i ∙ w
+      same-stepwise p q w = let i : o ≡ p = same-order o p q in ap (λ (m : Order). stepwise (m .method)) i ∙ w
 
   abbrev Goal : Turn → Type 0
   Goal t = Inv (pass o) (suc k) (step (live o x p n xs es) y (stepOf o (at x p v) n t))
