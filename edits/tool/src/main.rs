@@ -21,7 +21,7 @@ use std::sync::Mutex;
 use std::time::Instant;
 
 /// The gate's sample of mutants: so many for each crate, from this seed.
-const SAMPLE: usize = 5;
+const SAMPLE: usize = 3;
 const SEED: u64 = 20261116;
 
 /// So many changes inside different functions are checked together.

@@ -36,6 +36,16 @@ fn copy(from: &Path, to: &Path) -> Result<(), String> {
     run(Command::new("cp").arg("-R").arg(from).arg(to))
 }
 
+/// What is proved already, which the prover reads and replaces and never writes into: by links where the file system has them.
+fn link(from: &Path, to: &Path) -> Result<(), String> {
+    fs::create_dir_all(to.parent().unwrap_or(to)).map_err(|e| e.to_string())?;
+    let linked = run(Command::new("cp").arg("-Rpl").arg(from).arg(to));
+    linked.or_else(|_| {
+        let _ = fs::remove_dir_all(to);
+        copy(from, to)
+    })
+}
+
 /// What the prover reads of the repository's own crates.
 fn copy_sources(root: &Path, crates: &[String], room: &Path) -> Result<(), String> {
     copy(&root.join("crates.txt"), &room.join("crates.txt"))?;
@@ -75,7 +85,11 @@ impl Rooms {
                 if from.is_dir() {
                     let to = room.join("target").join(part);
                     let _ = fs::remove_dir_all(&to);
-                    copy(&from, &to)?;
+                    if part == "stamp" {
+                        copy(&from, &to)?
+                    } else {
+                        link(&from, &to)?
+                    }
                 }
             }
         }
@@ -116,7 +130,7 @@ impl Rooms {
             for room in self.rooms.iter().filter(|r| **r != self.rooms[*at]) {
                 let to = room.join("target/inc").join(of);
                 let _ = fs::remove_dir_all(&to);
-                copy(&from, &to)?;
+                link(&from, &to)?;
             }
         }
         Ok(())
