@@ -33,7 +33,7 @@ use Rattle.recorder.specs.Script.{takesImmed, write, portion, stepwise}
 use Rattle.recorder.specs.Exchanges.{see}
 use Rattle.recorder.specs.Rules.{lastFrame}
 use Rattle.recorder.specs.Places.{pieceEnded, beforeBlock, afterCloseTrack, opAfter}
-use Rattle.recorder.specs.Job.{goes, inOrder, inTime, inPiece, isWrite, standsAt}
+use Rattle.recorder.specs.Job.{inOrder, inTime, inPiece, isWrite, standsAt}
 use Rattle.recorder.proofs.Lists.{if-yes, false-true, both, clash}
 use Rattle.recorder.proofs.Turns.{Asks, a46, a51, a52, a03, isAsking, Reads, malformed, profile, status, information, indication, ready, unread}
 

@@ -27,7 +27,7 @@ use Rattle.recorder.specs.Rules.{Judgement, onward, refused, discTests, 
 use Rattle.recorder.specs.Places.{afterIn}
 use Rattle.recorder.specs.Job.{dueAt, goes, finish, halt, advanced, turnBy, turnOf}
 use Rattle.recorder.proofs.Lists.{false-true, both, tested-by}
-use Rattle.recorder.proofs.Turns.{then, Reads, busy, not-ready, failed, malformed, profile, status, information, indication, ready, unread, reads}
+use Rattle.recorder.proofs.Turns.{Reads, busy, not-ready, failed, malformed, profile, status, information, indication, ready, unread, reads}
 use Rattle.recorder.proofs.Apart.{past-count}
 use Rattle.recorder.proofs.Behind.{Sized, behind, onto, Goes, GoesOn, goes-on}
 use Rattle.recorder.proofs.Standing.{long-at, InSession, Early, Standing, StandingThen, standing-closing, stood, stood-polled}

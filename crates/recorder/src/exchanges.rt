@@ -17,8 +17,9 @@ use mmc::units::BlockAddress;
 use mmc::units::FrameCount;
 
 // What the rules look at in the replies so far: the profile, the disc status, and the frames to where the next block goes (address
-// plus 150): the address of the latest READ TRACK INFORMATION in a track at once, or the end of the last WRITE; whether TEST UNIT READY was
-// answered good and nothing but busy since; whether the disc was erased. Beside these the latest progress of a polling, which the panel shows.
+// plus 150): the address of the latest READ TRACK INFORMATION in a track at once, or the end of the last WRITE; whether the disc was
+// erased; whether TEST UNIT READY was answered good and nothing but busy since. Beside these the latest progress of a polling, which
+// the panel shows.
 pub struct Seen {
     pub profile: u16,
     pub status: u8,

@@ -111,7 +111,7 @@ fn it_fits(m: Method, blocks: BlockSum, start: u64, i: TrackInformation) -> bool
     }
 }
 
-// Whether a disc can be erased, where it has to be: it is appendable or finalized.
+// Whether a disc has to be erased: it is appendable or finalized.
 fn is_used(status: u8) -> bool
     ensures { λ r. ⌜ r ≡ used status ⌝ }
 {
