@@ -5,7 +5,7 @@ use mathlib.Core.List.{List, [], _∷_}
 use lib.Dec.{leb}
 use lib.ListN.{length, getD}
 use lib.Bits.{bitXor}
-use Rattle.mmc.specs.Bytes.{if}
+use Rattle.basics.specs.Bytes.{if}
 
 -- one bit of the division: the remainder of 16 bits moves up by one place, and the polynomial is taken from it where a 1 moves out
 unfoldable pub bitStep : ℕ → ℕ

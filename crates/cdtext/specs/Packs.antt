@@ -5,7 +5,7 @@ use mathlib.Core.List.{List, [], _∷_, _++_}
 use mathlib.Core.Bool.{Bool, true, false, _&&_}
 use lib.ListN.{length, take, drop, replicate}
 use lib.Dec.{eqb, leb}
-use Rattle.mmc.specs.Bytes.{if, bytes16, allZero, sameBytes}
+use Rattle.basics.specs.Bytes.{if, bytes16, allZero, sameBytes}
 use Rattle.mmc.specs.Refusals.{Outcome, pass, refuse, answerOf, bufferOf}
 use Rattle.cdtext.specs.Check.{checkOf}
 use Rattle.cdtext.specs.Titles.{mostTitles, allowed, titleCount, allTitles, runOf}

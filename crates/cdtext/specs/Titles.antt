@@ -4,7 +4,7 @@ use mathlib.Core.List.{List, [], _∷_, _++_}
 use mathlib.Core.Bool.{Bool, true, _&&_}
 use lib.ListN.{length}
 use lib.Dec.{eqb, leb}
-use Rattle.mmc.specs.Bytes.{if}
+use Rattle.basics.specs.Bytes.{if}
 
 -- "plain ASCII from 20h to 7Eh"
 abbrev pub lastCharacter : ℕ

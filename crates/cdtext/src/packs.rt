@@ -4,7 +4,7 @@ ghost use mathlib.Core.Bool.{true};
 ghost use mathlib.Core.List.{_++_};
 ghost use Prim.Native.Nat.{_+_, _*_, _/_, _≤_, _<_, min};
 ghost use lib.ListN.{length, take, drop};
-ghost use Rattle.mmc.specs.Bytes.{sameBytes};
+ghost use Rattle.basics.specs.Bytes.{sameBytes};
 ghost use Rattle.cdtext.specs.Titles.{titleCount};
 ghost use Rattle.cdtext.specs.Bench.{ExamplePacks};
 ghost use Rattle.cdtext.specs.Packs.{pack, nextPlace, placeAfter, textPacks, packsFor, sizeRecord, sizePack, sizePacks, packsOf, packs, textIn, trimmed, packsSize, areBytes, runIn, readPacks, Fits, FillsTitles, MakesPacks, ReadsPacks};

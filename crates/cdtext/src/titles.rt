@@ -2,7 +2,7 @@
 ghost use mathlib.Core.Path.{_≡_};
 ghost use Prim.Native.Nat.{_+_, _^_, _≤_, _<_};
 ghost use lib.Dec.{eqb};
-ghost use Rattle.mmc.specs.Bytes.{if};
+ghost use Rattle.basics.specs.Bytes.{if};
 ghost use Rattle.cdtext.specs.Titles.{isCharacter, titleLength, titleCount, allowed};
 
 fn is_character(x: u8) -> bool

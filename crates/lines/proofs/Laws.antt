@@ -7,7 +7,7 @@ use native.Mathlib.Decide.{decLe}
 use native.Mathlib.Omega.{arith}
 use lib.ListN.{length, take, drop, length-append}
 use lib.Seq.{length-take-le, take-all, take-at}
-use Rattle.mmc.specs.Bytes.{putAt}
+use Rattle.basics.specs.Bytes.{putAt}
 use Rattle.mmc.specs.Refusals.{pass, Fills}
 use Rattle.mmc.specs.declared.refusals.Made.{Made}
 use Rattle.recorder.specs.Answers.{bytesIn}

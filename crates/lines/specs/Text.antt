@@ -7,7 +7,7 @@ use Prim.Native.String as S
 use Prim.Native.String.{String}
 use lib.Dec.{ltb}
 use lib.ListN.{length, take}
-use Rattle.mmc.specs.Bytes.{if}
+use Rattle.basics.specs.Bytes.{if}
 
 -- the codes of a text
 unfoldable pub codes : String → List ℕ

@@ -2,7 +2,7 @@
 ghost use mathlib.Core.Path.{_≡_};
 ghost use Prim.Native.Nat.{_+_, _*_, _≤_, _<_};
 ghost use lib.ListN.{length};
-ghost use Rattle.mmc.specs.Bytes.{putAt};
+ghost use Rattle.basics.specs.Bytes.{putAt};
 ghost use Rattle.lines.specs.Text.{digit, parted, decimal, Adds};
 
 // Writes s at the index at.

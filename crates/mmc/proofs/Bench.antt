@@ -1,6 +1,6 @@
 -- The bench's sheets, computed from the definitions.
 use mathlib.Core.Path.{refl}
-use Rattle.mmc.specs.Bytes.{bytes32, be32, sumOf, allZero}
+use Rattle.basics.specs.Bytes.{bytes32, be32, sumOf, allZero}
 use Rattle.mmc.specs.Block.{checkSum, sealed, blockFault, blockRead}
 use Rattle.mmc.specs.Order.{allNone, validOrder, allKind, allLong, blocksOf}
 use Rattle.mmc.specs.OrderBlock.{methodOf, keepOf, protectOf, immedOf, eraseOf, row, rows, orderBody, orderBytes, orderBlock, trackOf, tracksOf, kindsOk, fieldsOf, headOk, orderOk, readOrder}

@@ -4,7 +4,7 @@ use mathlib.Core.List.{List, _++_}
 use mathlib.Core.Bool.{Bool}
 use lib.ListN.{length, take, drop}
 use lib.Dec.{eqb}
-use Rattle.mmc.specs.Bytes.{if, sumOf, be16, bytes16}
+use Rattle.basics.specs.Bytes.{if, sumOf, be16, bytes16}
 use Rattle.mmc.specs.Refusals.{Outcome, pass, refuse}
 
 -- the check of bytes 0 to 509

@@ -5,7 +5,7 @@ use mathlib.Core.Bool.{Bool, _&&_}
 use lib.ListN.{replicate}
 use lib.IntN.{ℤ, pos, negsuc}
 use lib.Dec.{leb}
-use Rattle.mmc.specs.Bytes.{if, bytes16, bytes32}
+use Rattle.basics.specs.Bytes.{if, bytes16, bytes32}
 use Rattle.mmc.specs.Refusals.{Outcome, pass, refuse}
 use Rattle.mmc.specs.Sheet.{sheetSize}
 use Rattle.mmc.specs.Times.{inRange}

@@ -1,4 +1,3 @@
-pub mod Bytes
 pub mod Refusals
 pub mod Block
 pub mod Order

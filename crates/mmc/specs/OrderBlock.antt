@@ -5,7 +5,7 @@ use mathlib.Core.List.{List, [], _∷_, _++_}
 use mathlib.Core.Bool.{Bool, true, _&&_}
 use lib.ListN.{getD, take, drop, replicate}
 use lib.Dec.{eqb, leb}
-use Rattle.mmc.specs.Bytes.{if, be32, bytes32, allZero}
+use Rattle.basics.specs.Bytes.{if, be32, bytes32, allZero}
 use Rattle.mmc.specs.Refusals.{Outcome, pass, refuse, checked, valueOr, Fills}
 use Rattle.mmc.specs.Block.{sealed, blockRead}
 use Rattle.mmc.specs.Order.{noOrder, validOrder}

@@ -3,7 +3,7 @@ use Prim.Native.Nat.{ℕ, _+_}
 use mathlib.Core.List.{List, _∷_, _++_}
 use mathlib.Core.Bool.{Bool, _&&_}
 use lib.ListN.{replicate}
-use Rattle.mmc.specs.Bytes.{if, bytes16}
+use Rattle.basics.specs.Bytes.{if, bytes16}
 use Rattle.mmc.specs.Refusals.{Outcome, pass, refuse}
 use Rattle.mmc.specs.Order.{validOrder, isSao}
 use Rattle.mmc.specs.declared.order.Order.{Order}

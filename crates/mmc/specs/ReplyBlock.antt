@@ -5,7 +5,7 @@ use mathlib.Core.List.{List, _∷_, _++_}
 use mathlib.Core.Bool.{Bool, true, false, _&&_}
 use lib.ListN.{length, getD, take, drop, replicate}
 use lib.Dec.{eqb, leb}
-use Rattle.mmc.specs.Bytes.{if, be16, bytes16, allZero}
+use Rattle.basics.specs.Bytes.{if, be16, bytes16, allZero}
 use Rattle.mmc.specs.Refusals.{Outcome, pass, refuse, numberOf, Fills}
 use Rattle.mmc.specs.Block.{sealed, blockRead}
 use Rattle.mmc.specs.declared.reply_block.ReplyRead.{ReplyRead}

@@ -5,7 +5,7 @@ use mathlib.Core.List.{List, [], _∷_, _++_}
 use mathlib.Core.Bool.{Bool, false, _&&_}
 use lib.ListN.{length, getD, drop, replicate}
 use lib.Dec.{eqb, leb}
-use Rattle.mmc.specs.Bytes.{if, sameBytes}
+use Rattle.basics.specs.Bytes.{if, sameBytes}
 use Rattle.mmc.specs.Refusals.{Outcome, pass, refuse, checked, valueOr, unless, Fills}
 use Rattle.mmc.specs.Order.{mostTracks, noTrack, validOrder, isSao, tracksIn, orderKind, allKind, allLong, blocksOf}
 use Rattle.mmc.specs.Times.{lastAddress, leadFrames, clock, framesOf}

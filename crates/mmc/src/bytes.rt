@@ -2,7 +2,7 @@
 ghost use mathlib.Core.Path.{_≡_};
 ghost use Prim.Native.Nat.{_+_, _≤_};
 ghost use lib.ListN.{length, getD};
-ghost use Rattle.mmc.specs.Bytes.{if, be16, be32, sumOf, allZero, sameBytes, putAt};
+ghost use Rattle.basics.specs.Bytes.{if, be16, be32, sumOf, allZero, sameBytes, putAt};
 ghost use Rattle.mmc.specs.Refusals.{pass, Fills};
 use crate::refusals::Made;
 use crate::refusals::Refusal;

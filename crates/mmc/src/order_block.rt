@@ -4,7 +4,7 @@ ghost use mathlib.Core.List.{_++_};
 ghost use Prim.Native.Nat.{_+_, _≤_};
 ghost use lib.ListN.{length, drop};
 ghost use Rattle.mmc.specs.Block.{blockFault};
-ghost use Rattle.mmc.specs.Bytes.{putAt};
+ghost use Rattle.basics.specs.Bytes.{putAt};
 ghost use Rattle.mmc.specs.OrderBlock.{methodOf, methodByte, kindOf, kindByte, flagsByte, headOk, kindsOk, trackOf, tracksOf, fieldsOf, orderOk, row, rows, orderBody, ReadsOrder, WritesOrder};
 use crate::block::check_block;
 use crate::block::put_check;

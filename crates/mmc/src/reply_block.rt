@@ -4,7 +4,7 @@ ghost use mathlib.Core.List.{_++_};
 ghost use Prim.Native.Nat.{_+_, _≤_};
 ghost use lib.ListN.{length, drop};
 ghost use Rattle.mmc.specs.Block.{blockFault};
-ghost use Rattle.mmc.specs.Bytes.{partOf};
+ghost use Rattle.basics.specs.Bytes.{partOf};
 ghost use Rattle.mmc.specs.ReplyBlock.{replyOf, dataLength, replyOk, statusByte, replyHead, ReadsReply, WritesReply};
 use crate::block::check_block;
 use crate::block::put_check;

@@ -4,7 +4,7 @@ ghost use mathlib.Core.Bool.{true};
 ghost use mathlib.Core.List.{_++_};
 ghost use Prim.Native.Nat.{_+_, _-_, _*_, _≤_, _<_};
 ghost use lib.ListN.{length, drop, replicate};
-ghost use Rattle.mmc.specs.Bytes.{putAt};
+ghost use Rattle.basics.specs.Bytes.{putAt};
 ghost use Rattle.mmc.specs.Order.{noTrack, orderKind, tracksIn};
 ghost use Rattle.mmc.specs.Refusals.{pass, faultIn, Fills};
 ghost use Rattle.mmc.specs.Sheet.{sheetFault, sheetSize, controlOf, trackForm, edgeForm, entry, leadIn, pauseOf, startOf, leadOut, trackEntries, sheetOf, sheetLength, Fits, framesIn, kindIn, trackIn, lengthsIn, orderIn, noSheet, isSheet, MakesSheet, ReadsSheet};

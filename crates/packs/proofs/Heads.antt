@@ -8,7 +8,7 @@ use lib.ListN.{length, getD, take, drop, replicate, length-drop, length-replicat
 use lib.Seq.{length-take-le, take-all}
 use lib.Dec.{eqb, leb}
 use borrow.Author.Tests.{eqb-true, leb-true, eq-eqb, ne-eqb, not-true, not-false}
-use Rattle.mmc.specs.Bytes.{be16}
+use Rattle.basics.specs.Bytes.{be16}
 use Rattle.packs.specs.Answers.{answerTo}
 use Rattle.packs.specs.Requests.{requestOf, isServed, isHead, isRequest, nextLength, answered}
 use Rattle.packs.specs.declared.Request.{Request}

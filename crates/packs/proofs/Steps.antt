@@ -8,7 +8,7 @@ use lib.ListN.{length, take, drop, set, replicate, length-append, length-replica
 use lib.Seq.{length-take-le, length-front, take-all, take-at}
 use lib.Dec.{eqb, leb}
 use borrow.Author.Tests.{leb-true}
-use Rattle.mmc.specs.Bytes.{if, bytes16}
+use Rattle.basics.specs.Bytes.{if, bytes16}
 use Rattle.mmc.specs.Refusals.{Outcome, pass, refuse, valueOr, answerOf, bufferOf}
 use Rattle.cdtext.specs.Check.{checkOf}
 use Rattle.packs.specs.Answers.{work, headOf, answerTo, bytesOf}

@@ -2,7 +2,7 @@
 use Prim.Native.Nat.{ℕ, _/_}
 use mathlib.Core.List.{List, [], _∷_, _++_}
 use lib.Dec.{eqb}
-use Rattle.mmc.specs.Bytes.{if, bytes16}
+use Rattle.basics.specs.Bytes.{if, bytes16}
 use Rattle.mmc.specs.Refusals.{Outcome, pass, refuse, answerOf, bufferOf}
 use Rattle.cdtext.specs.Check.{checkOf}
 use Rattle.cdtext.specs.Packs.{packs, readPacks}

@@ -4,7 +4,7 @@ use mathlib.Core.Bool.{Bool, _&&_}
 use mathlib.Core.List.{List, [], _∷_}
 use lib.ListN.{length, getD, drop, replicate}
 use lib.Dec.{eqb, leb}
-use Rattle.mmc.specs.Bytes.{be16}
+use Rattle.basics.specs.Bytes.{be16}
 use Rattle.packs.specs.Answers.{answerTo}
 use Rattle.packs.specs.declared.Request.{Request}
 

@@ -12,7 +12,7 @@ ghost use mathlib.Core.Bool.{true, false};
 ghost use mathlib.Core.List.{[], _∷_, _++_};
 ghost use Prim.Native.Nat.{_≤_};
 ghost use lib.ListN.{length, take, drop};
-ghost use Rattle.mmc.specs.Bytes.{bytes16};
+ghost use Rattle.basics.specs.Bytes.{bytes16};
 ghost use Rattle.cdtext.specs.Refusals.{numberOf};
 ghost use Rattle.io.specs.Counts.{Counts};
 ghost use Rattle.packs.specs.Answers.{answerTo, bytesOf};

@@ -1,6 +1,6 @@
 -- The bench's sheets, computed from the definitions.
 use mathlib.Core.Path.{refl}
-use Rattle.mmc.specs.Bytes.{bytes32, be32}
+use Rattle.basics.specs.Bytes.{bytes32, be32}
 use Rattle.mmc.specs.Order.{allKind, allLong, blocksOf}
 use Rattle.mmc.specs.Times.{inRange, framesTo, addressAt}
 use Rattle.mmc.specs.Commands.{writeRange, writeBytes, writeCommand, sendCueSheet, closeTrackSession}

@@ -7,7 +7,7 @@ use native.Mathlib.Omega.{arith}
 use borrow.Author.Tests.{eqb-true}
 use lib.Dec.{eqb}
 use lib.ListN.{length}
-use Rattle.mmc.specs.Bytes.{if}
+use Rattle.basics.specs.Bytes.{if}
 use Rattle.mmc.specs.Refusals.{Outcome, pass}
 use Rattle.mmc.specs.Order.{tracksIn}
 use Rattle.mmc.specs.ReplyBlock.{Reply}

@@ -7,7 +7,7 @@ use Prim.Native.Nat.{ℕ, suc, _+_, _≤_, _<_, min}
 use native.Mathlib.Omega.{arith}
 use lib.Dec.{lit≤}
 use lib.ListN.{length, getD, length-append}
-use Rattle.mmc.specs.Bytes.{if}
+use Rattle.basics.specs.Bytes.{if}
 use Rattle.mmc.specs.Refusals.{Outcome, pass, refuse}
 use Rattle.mmc.specs.OrderBlock.{readOrder}
 use Rattle.mmc.specs.ReplyBlock.{Reply, replyOf}

@@ -8,7 +8,7 @@ use native.Mathlib.Decide.{decLt}
 use lib.IntN.{pos, natAbs, -ℤ-+ℤ-cancel}
 use lib.ListN.{length, getD, length-append, List·getD-append}
 use lib.Seq.{getD-append-seam}
-use Rattle.mmc.specs.Bytes.{if}
+use Rattle.basics.specs.Bytes.{if}
 use Rattle.mmc.specs.Times.{leadFrames, framesTo, addressAt}
 use Rattle.mmc.specs.Refusals.{pass}
 use Rattle.mmc.specs.declared.units.FrameCount.{FrameCount}

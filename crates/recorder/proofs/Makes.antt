@@ -11,7 +11,7 @@ use lib.IntN.{pos, negsuc}
 use lib.Signed.{leZ}
 use lib.ListN.{length, replicate}
 use lib.Seq.{take-append-seam}
-use Rattle.mmc.specs.Bytes.{if}
+use Rattle.basics.specs.Bytes.{if}
 use Rattle.mmc.specs.Refusals.{Outcome, pass, valueOr}
 use Rattle.mmc.specs.Order.{mostTracks}
 use Rattle.mmc.specs.Times.{lastAddress, inRange, addressAt}

@@ -7,7 +7,7 @@ use native.Mathlib.Omega.{arith}
 use borrow.Author.Tests.{leb-true}
 use lib.Dec.{eqb, leb}
 use lib.ListN.{length, getD, drop, length-take}
-use Rattle.mmc.specs.Bytes.{if}
+use Rattle.basics.specs.Bytes.{if}
 use Rattle.mmc.specs.Refusals.{pass, refuse, valueOr}
 use Rattle.mmc.specs.Block.{blockFault, blockRead}
 use Rattle.mmc.specs.Order.{mostTracks, validOrder}

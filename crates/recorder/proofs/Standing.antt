@@ -8,7 +8,7 @@ use borrow.Author.Tests.{ltb-true, ltb-false, leb-true, not-false}
 use lib.Dec.{ltb, leb}
 use lib.ListN.{length, getD, drop}
 use lib.Seq.{drop-cons}
-use Rattle.mmc.specs.Bytes.{if}
+use Rattle.basics.specs.Bytes.{if}
 use Rattle.mmc.specs.Order.{leastBlocks, noTrack, tracksIn, allLong, blocksOf}
 use Rattle.mmc.specs.Times.{lastAddress, leadFrames, framesTo}
 use Rattle.mmc.specs.declared.order.Order.{Order}

@@ -5,7 +5,7 @@ use mathlib.Core.List.{List, [], _∷_}
 use Prim.Native.Nat.{ℕ}
 use lib.Dec.{leb, eqb}
 use lib.ListN.{length}
-use Rattle.mmc.specs.Bytes.{if}
+use Rattle.basics.specs.Bytes.{if}
 use Rattle.mmc.specs.Refusals.{pass}
 use Rattle.mmc.specs.ReplyBlock.{Reply}
 use Rattle.mmc.specs.declared.units.TrackNumber.{TrackNumber}

@@ -8,7 +8,7 @@ use native.Mathlib.Omega.{arith}
 use borrow.Author.Tests.{le-ltb, le-leb, ltb-false, eqb-true, not-false}
 use lib.Dec.{ltb, leb, eqb, lit<, lit≤}
 use lib.ListN.{length, drop, replicate, length-append}
-use Rattle.mmc.specs.Bytes.{if, be32}
+use Rattle.basics.specs.Bytes.{if, be32}
 use Rattle.mmc.specs.Refusals.{pass}
 use Rattle.mmc.specs.Order.{tracksIn, blocksOf}
 use Rattle.mmc.specs.Times.{leadFrames, framesTo}

@@ -5,7 +5,7 @@ use mathlib.Core.List.{List, [], _∷_, _++_, map}
 use Prim.Native.Nat.{ℕ, _-_}
 use lib.ListN.{length, getD, take, drop, replicate}
 use Rattle.mmc.specs.Bench as Layouts
-use Rattle.mmc.specs.Bytes.{bytes32}
+use Rattle.basics.specs.Bytes.{bytes32}
 use Rattle.mmc.specs.Refusals.{pass}
 use Rattle.mmc.specs.Order.{mostTracks, noTrack}
 use Rattle.mmc.specs.ReplyBlock.{Reply, replyOf}

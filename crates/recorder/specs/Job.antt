@@ -5,7 +5,7 @@ use mathlib.Core.Bool.{Bool, true, false, not, _&&_, _||_}
 use mathlib.Core.List.{List, [], _∷_}
 use Prim.Native.Nat.{ℕ, suc, _+_, _-_, _^_, min}
 use lib.Dec.{ltb, leb, eqb}
-use Rattle.mmc.specs.Bytes.{if}
+use Rattle.basics.specs.Bytes.{if}
 use Rattle.mmc.specs.Refusals.{Outcome, pass, refuse, numberOf}
 use Rattle.mmc.specs.Order.{mostTracks, noOrder}
 use Rattle.mmc.specs.OrderBlock.{readOrder}

@@ -3,7 +3,7 @@
 use Prim.Native.Nat.{ℕ, zero, suc, _+_}
 use lib.ListN.{getD}
 use lib.Dec.{ltb}
-use Rattle.mmc.specs.Bytes.{if}
+use Rattle.basics.specs.Bytes.{if}
 use Rattle.mmc.specs.Order.{noTrack}
 use Rattle.mmc.specs.Times.{leadFrames}
 use Rattle.mmc.specs.declared.order.Order.{Order}

@@ -6,7 +6,7 @@ use mathlib.Core.Bool.{Bool, _&&_, _||_}
 use lib.ListN.{length, getD, drop}
 use lib.Dec.{leb, eqb}
 use lib.IntN.{pos}
-use Rattle.mmc.specs.Bytes.{if, be16, be32}
+use Rattle.basics.specs.Bytes.{if, be16, be32}
 use Rattle.mmc.specs.ReplyBlock.{Reply}
 use Rattle.mmc.specs.declared.units.BlockAddress.{BlockAddress}
 use Rattle.recorder.specs.declared.script.Op.{Op}

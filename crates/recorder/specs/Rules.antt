@@ -5,7 +5,7 @@ use mathlib.Core.List.{List, [], _∷_, _++_}
 use Prim.Native.Nat.{ℕ, _+_, _-_}
 use lib.ListN.{drop}
 use lib.Dec.{ltb, leb, eqb}
-use Rattle.mmc.specs.Bytes.{if}
+use Rattle.basics.specs.Bytes.{if}
 use Rattle.mmc.specs.Refusals.{Outcome, pass, refuse, numberOf}
 use Rattle.mmc.specs.Order.{tracksIn, orderKind, allKind, allLong, blocksOf}
 use Rattle.mmc.specs.Times.{lastAddress, leadFrames, framesTo, addressAt}

@@ -7,7 +7,7 @@ use native.Mathlib.Omega.{arith}
 use lib.Dec.{eqb}
 use lib.ListN.{length, getD}
 use borrow.Author.Tests.{eqb-true}
-use Rattle.mmc.proofs.bytes.Steps.{both}
+use Rattle.basics.proofs.Tests.{both}
 
 -- the entries are f's values at i and on
 abbrev pub holds : (ℕ → ℕ) → ℕ → List ℕ → Bool

@@ -8,8 +8,8 @@ use lib.Arith.{bin-ind}
 use lib.Bits.{bitXor, xor-block, xor-shr, xor-mod, xor-shifted, xor-zero-r, xor-comm, xor-lt}
 use lib.Dec.{leb}
 use borrow.Author.Tests.{le-leb, lt-leb, leb-true, leb-false}
-use Rattle.mmc.specs.Bytes.{if}
-use Rattle.mmc.proofs.bytes.Steps.{known}
+use Rattle.basics.specs.Bytes.{if}
+use Rattle.basics.proofs.Tests.{known}
 use Rattle.cdtext.specs.Check.{bitStep, eightBits, byteIn}
 
 -- ---- laws of bitXor

@@ -7,9 +7,10 @@ use native.Mathlib.Omega.{arith}
 use lib.Dec.{eqb, leb}
 use lib.ListN.{length, replicate, length-append}
 use borrow.Author.Tests.{eq-eqb, leb-true, le-leb}
-use Rattle.mmc.specs.Bytes.{if}
+use Rattle.basics.specs.Bytes.{if}
 use Rattle.mmc.specs.Refusals.{Outcome, pass, refuse}
-use Rattle.mmc.proofs.bytes.Steps.{both, known, same-is, same-refl, false-true}
+use Rattle.basics.proofs.Tests.{both, known, false-true}
+use Rattle.basics.proofs.Bytes.{same-is, same-refl}
 use Rattle.cdtext.specs.Titles.{isCharacter, mostTitles, allowed, titlesFrom, titleCount}
 use Rattle.cdtext.specs.Packs.{mostPacks, packs, packsOf, packsFor, textPacks, sizeRecord, sizePacks, textIn, trimmed, runIn, packsSize, areBytes, isPacks, readPacks}
 use Rattle.cdtext.proofs.packs.Texts.{texts-length, sizes-length, in-front, whole, trims}

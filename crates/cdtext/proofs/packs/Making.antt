@@ -8,9 +8,10 @@ use lib.Dec.{leb}
 use lib.ListN.{length, take, drop}
 use lib.Seq.{take-at}
 use borrow.Author.Tests.{le-leb, lt-leb, leb-true}
-use Rattle.mmc.specs.Bytes.{sameBytes}
+use Rattle.basics.specs.Bytes.{sameBytes}
 use Rattle.mmc.specs.Refusals.{pass, refuse, answerOf, bufferOf}
-use Rattle.mmc.proofs.bytes.Steps.{known, both, same-is}
+use Rattle.basics.proofs.Tests.{known, both}
+use Rattle.basics.proofs.Bytes.{same-is}
 use Rattle.cdtext.specs.Titles.{mostTitles, allowed, titlesFrom, titleCount}
 use Rattle.cdtext.specs.Packs.{mostPacks, longestRun, packsFor, packsOf, packs, textPacks, sizePacks, sizeRecord, areBytes, Fits, FillsPacks, MakesPacks}
 use Rattle.cdtext.specs.Refusals.{numberOf}

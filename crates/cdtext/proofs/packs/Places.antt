@@ -6,7 +6,8 @@ use native.Mathlib.Omega.{arith}
 use lib.Dec.{eqb}
 use lib.ListN.{length, getD, take, drop, drop-of-length-le, take-append-drop}
 use lib.Seq.{take-add}
-use Rattle.mmc.proofs.bytes.Steps.{drop-next, known}
+use Rattle.basics.proofs.Tests.{known}
+use Rattle.basics.proofs.Lists.{drop-next}
 use Rattle.cdtext.specs.Titles.{titleCount}
 use Rattle.cdtext.specs.Packs.{nextPlace, placeAfter, firstPlace, placeAt}
 use Rattle.cdtext.specs.declared.packs.Place.{Place}

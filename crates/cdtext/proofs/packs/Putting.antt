@@ -8,7 +8,7 @@ use lib.Dec.{leb}
 use lib.ListN.{length, take, drop, length-drop, length-take}
 use lib.Seq.{take-all}
 use borrow.Author.Tests.{leb-true, leb-false}
-use Rattle.mmc.proofs.bytes.Steps.{known}
+use Rattle.basics.proofs.Tests.{known}
 use Rattle.cdtext.specs.Titles.{mostTitles}
 use Rattle.cdtext.specs.Packs.{mostPosition, longestRun, pack, placeAfter, placeAt, firstPlace, textPack, textPacks, packsFor, Fits}
 use Rattle.cdtext.specs.declared.packs.Place.{Place}

@@ -9,9 +9,11 @@ use lib.Dec.{eqb}
 use lib.ListN.{length, getD, take, drop, length-append, length-drop}
 use lib.Seq.{length-take-le, take-suc, take-length, take-append-add}
 use borrow.Author.Tests.{eq-eqb, ne-eqb}
-use Rattle.mmc.specs.Bytes.{if, allZero}
+use Rattle.basics.specs.Bytes.{if, allZero}
 use Rattle.mmc.specs.Refusals.{pass, bufferOf}
-use Rattle.mmc.proofs.bytes.Steps.{known, zeros, zeros-are}
+use Rattle.basics.proofs.Tests.{known}
+use Rattle.basics.proofs.Lists.{zeros}
+use Rattle.basics.proofs.Bytes.{zeros-are}
 use Rattle.cdtext.specs.Packs.{textIn, trimmed}
 use Rattle.cdtext.proofs.packs.Steps.{put-part, put-more}
 

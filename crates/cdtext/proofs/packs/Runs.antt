@@ -7,12 +7,13 @@ use native.Mathlib.Omega.{arith}
 use lib.Dec.{leb, eqb}
 use lib.ListN.{length, take, drop, replicate}
 use borrow.Author.Tests.{leb-true, eqb-true}
-use Rattle.mmc.specs.Bytes.{if}
+use Rattle.basics.specs.Bytes.{if}
 use Rattle.mmc.specs.Refusals.{pass, refuse, answerOf, bufferOf, madeOf, Fills}
 use Rattle.mmc.specs.declared.refusals.Made.{Made}
 use Rattle.mmc.specs.declared.refusals.Made.the-variants as L
 use Rattle.mmc.specs.declared.refusals.Refusal.{Refusal}
-use Rattle.mmc.proofs.bytes.Steps.{both, zeros, drop-zeros}
+use Rattle.basics.proofs.Tests.{both}
+use Rattle.basics.proofs.Lists.{zeros, drop-zeros}
 use Rattle.cdtext.specs.Packs.{mostPacks, packs, textIn, trimmed, runIn, packsSize, areBytes, isPacks, readPacks, FillsTitles, ReadsPacks}
 use Rattle.cdtext.specs.Refusals.{readOf}
 use Rattle.cdtext.specs.declared.refusals.Read.{Read}

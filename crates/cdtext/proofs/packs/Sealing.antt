@@ -7,7 +7,7 @@ use lib.ListN.{length, take, set, replicate, length-append, length-replicate}
 use lib.Seq.{take-at, set-at}
 use borrow.Author.Tests.{le-leb}
 use Rattle.mmc.specs.Refusals.{pass, bufferOf}
-use Rattle.mmc.proofs.bytes.Steps.{drop-zeros}
+use Rattle.basics.proofs.Lists.{drop-zeros}
 use Rattle.cdtext.specs.Check.{checkOf}
 use Rattle.cdtext.specs.Packs.{padded, pack}
 

@@ -8,8 +8,9 @@ use lib.Dec.{eqb}
 use lib.ListN.{length, take, drop, replicate, length-append, length-take, length-drop}
 use lib.Seq.{take-append-le, drop-append-le, take-at, drop-at, drop-drop, take-add, take-all}
 use borrow.Author.Tests.{eqb-true}
-use Rattle.mmc.specs.Bytes.{bytes16, allZero}
-use Rattle.mmc.proofs.bytes.Steps.{both, known, false-true, zeros-zero}
+use Rattle.basics.specs.Bytes.{bytes16, allZero}
+use Rattle.basics.proofs.Tests.{both, known, false-true}
+use Rattle.basics.proofs.Bytes.{zeros-zero}
 use Rattle.cdtext.specs.Check.{checkOf}
 use Rattle.cdtext.specs.Titles.{titlesFrom, isCharacter, titleLength}
 use Rattle.cdtext.specs.Packs.{mostPosition, padded, pack, placeAt, textPack, textPacks, sizePack, sizePacks, textIn, trimmed}

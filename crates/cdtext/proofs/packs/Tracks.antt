@@ -6,7 +6,7 @@ use Prim.Native.Nat.{ℕ, zero, suc, _+_, _*_, _≤_}
 use native.Mathlib.Omega.{arith}
 use lib.ListN.{length, take}
 use lib.Seq.{take-append-add, take-append-le, length-take-le}
-use Rattle.mmc.proofs.bytes.Steps.{both}
+use Rattle.basics.proofs.Tests.{both}
 use Rattle.cdtext.specs.Titles.{isCharacter, titleLength, allCharacters, allTitles, runOf}
 use Rattle.cdtext.specs.Packs.{placeAfter, placeAt, firstPlace, IsRun}
 use Rattle.cdtext.specs.declared.packs.Place.{Place}

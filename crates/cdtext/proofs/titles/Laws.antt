@@ -8,7 +8,7 @@ use lib.Dec.{eqb, leb}
 use lib.ListN.{length, length-append}
 use lib.Seq.{append-snoc}
 use borrow.Author.Tests.{eqb-true, ne-eqb, leb-true, le-leb}
-use Rattle.mmc.proofs.bytes.Steps.{both, known}
+use Rattle.basics.proofs.Tests.{both, known}
 use Rattle.cdtext.specs.Titles.{lastCharacter, isCharacter, titleLength, titlesFrom, titleCount, mostTitles, allowed, allCharacters, allTitles, runOf}
 use Rattle.cdtext.specs.Packs.{IsRun}
 

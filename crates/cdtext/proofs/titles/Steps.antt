@@ -7,8 +7,9 @@ use native.Mathlib.Omega.{arith}
 use lib.Dec.{eqb, leb}
 use lib.ListN.{length, getD, drop, drop-of-length-le}
 use borrow.Author.Tests.{eq-eqb, ne-eqb, le-leb, lt-leb, leb-false}
-use Rattle.mmc.specs.Bytes.{if}
-use Rattle.mmc.proofs.bytes.Steps.{drop-next, known}
+use Rattle.basics.specs.Bytes.{if}
+use Rattle.basics.proofs.Tests.{known}
+use Rattle.basics.proofs.Lists.{drop-next}
 use Rattle.cdtext.specs.Titles.{isCharacter, titleLength, titlesFrom, titleCount, mostTitles, allowed}
 
 -- the first i bytes have been read: they end n titles, and c characters of the next stand among them

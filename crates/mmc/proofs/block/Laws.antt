@@ -8,12 +8,13 @@ use borrow.Author.Tests.{eq-eqb, eqb-true}
 use lib.Dec.{eqb}
 use lib.ListN.{length, getD, take, drop, take-append-drop, length-append, drop-of-length-le}
 use lib.Seq.{take-at, drop-at, drop-cons}
-use Rattle.mmc.specs.Bytes.{if, be16, bytes16, sumOf, putAt}
+use Rattle.basics.specs.Bytes.{if, be16, bytes16, sumOf, putAt}
 use Rattle.mmc.specs.Refusals.{pass, refuse, numberOf}
 use Rattle.mmc.specs.Block.{checkSum, sealed, blockFault, blockRead}
 use Rattle.mmc.specs.declared.refusals.Refusal.{Refusal}
 use Rattle.mmc.proofs.refusals.Laws.{numbered}
-use Rattle.mmc.proofs.bytes.Steps.{if-zero, Bytes}
+use Rattle.basics.proofs.Tests.{if-zero}
+use Rattle.basics.proofs.Bytes.{Bytes}
 
 pub fault-length : (b : List ℕ) → blockFault b ≡ 0 → length b ≡ 512
 unfolding blockFault

@@ -1,11 +1,11 @@
 -- One more track of an order, in the loops that judge the tracks.
 use mathlib.Core.Path.{_≡_, sym, ap, _∙_}
-use mathlib.Core.List.{List, [], _∷_, map}
+use mathlib.Core.List.{List, [], _∷_}
 use mathlib.Core.Bool.{true, _&&_}
 use Prim.Native.Nat.{ℕ, _+_, _≤_, _<_, min}
 use native.Mathlib.Numerals.{add-one}
 use native.Mathlib.Omega.{arith}
-use lib.ListN.{length, length-map, getD, take, drop, drop-of-length-le}
+use lib.ListN.{length, getD, take, drop, drop-of-length-le}
 use lib.Seq.{drop-cons, getD-take, length-take-le, take-all}
 use native.Mathlib.Decide.{decLe}
 use lib.Dec.{leb}
@@ -14,11 +14,7 @@ use Rattle.mmc.specs.Order.{noTrack, isNone, allNone, validOrder, sameKi
 use Rattle.mmc.specs.declared.order.Order.{Order}
 use Rattle.mmc.specs.declared.order.Track.{Track}
 use Rattle.mmc.specs.declared.order.Kind.{Kind}
-use Rattle.mmc.proofs.bytes.Steps.{both}
-
--- an array of structs: what owning it tells is of its elements' machine values
-pub mapped-length : (Y : Type 0) (f : Track → Y) (l : List Track) (n : ℕ) → length (map f l) ≡ n → length l ≡ n
-mapped-length Y f l n e = sym (length-map l f) ∙ e
+use Rattle.basics.proofs.Tests.{both}
 
 -- the track at i is judged, and the rest is left (d: whatever stands for a track past the end)
 pub none-next : (d : Track) (ts : List Track) (i : ℕ) → i < length ts → allNone (drop i ts) ≡ (isNone (getD ts i d) && allNone (drop (i + 1) ts))

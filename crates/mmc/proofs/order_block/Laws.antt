@@ -10,12 +10,13 @@ use lib.Dec.{eqb, leb}
 use lib.ListN.{length, take, drop, replicate, length-drop}
 use lib.Seq.{drop-at, take-add, length-take-le}
 use Rattle.mmc.specs.Block.{sealed, checkSum, blockFault}
-use Rattle.mmc.specs.Bytes.{if, bytes32, be32, allZero}
+use Rattle.basics.specs.Bytes.{if, bytes32, be32, allZero}
 use Rattle.mmc.specs.OrderBlock.{orderBlock, methodByte, methodOf, flagsByte, keepOf, protectOf, immedOf, eraseOf, lastMethod, lastFlags, headOk, row, rows, orderBody, orderBytes, kindByte, kindOf, kindsOk, trackOf, tracksOf, fieldsOf, orderOk, readOrder}
 use Rattle.mmc.specs.Order.{validOrder}
 use Rattle.mmc.proofs.order_block.Rows.{body-length, rows-495}
 use Rattle.mmc.proofs.block.Laws.{sealed-ok, sealed-is, fault-length, read-listed, read-passed}
-use Rattle.mmc.proofs.bytes.Steps.{both, known, Bytes, be32-bytes32, bytes32-be32, zeros-are}
+use Rattle.basics.proofs.Tests.{both, known}
+use Rattle.basics.proofs.Bytes.{Bytes, be32-bytes32, bytes32-be32, zeros-are}
 use Rattle.mmc.specs.Refusals.{pass, refuse}
 use Rattle.mmc.specs.declared.order.Order.{Order}
 use Rattle.mmc.specs.declared.order.Method.{Method}

@@ -9,10 +9,10 @@ use native.Mathlib.Omega.{arith}
 use lib.ListN.{length, getD, take, drop, set, length-append, take-append-drop, replicate}
 use lib.Seq.{take-suc-set, append-snoc, drop-drop, take-all, getD-drop, take-at, length-take-le}
 use lib.Dec.{leb}
-use Rattle.mmc.specs.Bytes.{putAt, bytes32}
+use Rattle.basics.specs.Bytes.{putAt, bytes32}
 use Rattle.mmc.specs.Block.{sealed}
 use Rattle.mmc.specs.OrderBlock.{kindsOk, tracksOf, trackOf, row, rows, orderBody, orderBytes, methodByte, flagsByte}
-use Rattle.mmc.proofs.bytes.Steps.{put-next}
+use Rattle.basics.proofs.Bytes.{put-next}
 use Rattle.mmc.specs.declared.order.Order.{Order}
 use Rattle.mmc.specs.declared.order.Track.{Track}
 

@@ -8,11 +8,13 @@ use borrow.Author.Tests.{eqb-true, leb-true, le-leb}
 use lib.Dec.{eqb, leb}
 use lib.ListN.{length, getD, take, drop, replicate, length-append, length-drop}
 use lib.Seq.{take-at, drop-at, take-add, drop-drop, length-take-le}
-use Rattle.mmc.specs.Bytes.{bytes16, allZero}
+use Rattle.basics.specs.Bytes.{bytes16, allZero}
 use Rattle.mmc.specs.Refusals.{pass, refuse}
 use Rattle.mmc.specs.Block.{sealed, checkSum, blockFault}
 use Rattle.mmc.specs.ReplyBlock.{Reply, statusByte, replyHead, replyBody, replyBytes, replyBlock, dataLength, replyOk, replyIn, readReply}
-use Rattle.mmc.proofs.bytes.Steps.{both, known, Bytes, zeros, zeros-are, zeros-zero, zeros-length, drop-zeros, take-zeros}
+use Rattle.basics.proofs.Tests.{both, known}
+use Rattle.basics.proofs.Lists.{zeros, zeros-length, drop-zeros, take-zeros}
+use Rattle.basics.proofs.Bytes.{Bytes, zeros-are, zeros-zero}
 use Rattle.mmc.proofs.block.Laws.{sealed-ok, sealed-is, fault-length, read-listed, read-passed}
 
 -- ---- the status

@@ -8,10 +8,10 @@ use lib.ListN.{length, getD, take, drop, length-append}
 use lib.Seq.{length-take-le, drop-drop}
 use borrow.Author.Tests.{leb-true}
 use lib.Dec.{leb}
-use Rattle.mmc.specs.Bytes.{putAt, if}
+use Rattle.basics.specs.Bytes.{putAt, if}
 use Rattle.mmc.specs.Order.{noTrack, validOrder, allKind, allLong, blocksOf, tracksIn, orderKind, isSao}
 use Rattle.mmc.specs.Sheet.{entry, leadIn, pauseOf, startOf, leadOut, trackEntries, sheetOf, sheetLength, sheetFault, Fits}
-use Rattle.mmc.proofs.bytes.Steps.{put-next, put-take, put-drop}
+use Rattle.basics.proofs.Bytes.{put-next, put-take, put-drop}
 use Rattle.mmc.specs.Times.{lastAddress}
 use Rattle.mmc.proofs.order.Tracks.{in-next, in-end, blocks-next, valid-few}
 use Rattle.mmc.specs.declared.order.Order.{Order}

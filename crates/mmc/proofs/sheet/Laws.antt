@@ -8,11 +8,12 @@ use borrow.Author.Tests.{eq-eqb, eqb-true, leb-true, le-leb}
 use lib.Dec.{eqb, leb}
 use lib.ListN.{length, getD, drop, replicate, take-append-drop, length-drop}
 use lib.Seq.{length-take-le}
-use Rattle.mmc.specs.Bytes.{if, sameBytes}
+use Rattle.basics.specs.Bytes.{if, sameBytes}
 use Rattle.mmc.specs.Order.{noTrack, isNone, isAudio, allNone, validOrder, sameKind, tracksIn, orderKind, allKind, allLong, leastBlocks}
 use Rattle.mmc.specs.Sheet.{sheetFault, controlOf, entry, leadIn, pauseOf, startOf, leadOut, trackEntries, sheetOf, sheetLength, framesIn, kindIn, trackIn, lengthsIn, countIn, orderIn, sheetSize, isSheet, readSheet, cueSheet, sheetFor, orderFor, timesIn, Below, Rising, Ordered}
 use Rattle.mmc.proofs.sheet.Entries.{entries-length, Sheeted, sheeted}
-use Rattle.mmc.proofs.bytes.Steps.{both, known, same-is, same-refl}
+use Rattle.basics.proofs.Tests.{both, known}
+use Rattle.basics.proofs.Bytes.{same-is, same-refl}
 use Rattle.mmc.specs.Refusals.{pass, refuse}
 use Rattle.mmc.specs.declared.order.Order.{Order}
 use Rattle.mmc.specs.declared.order.Track.{Track}

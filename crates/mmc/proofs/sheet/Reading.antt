@@ -11,7 +11,7 @@ use borrow.Author.Tests.{eqb-true, leb-true}
 use lib.Dec.{eqb, leb}
 use Rattle.mmc.specs.Order.{noTrack}
 use Rattle.mmc.specs.Sheet.{sheetLength, sheetFault, orderIn, Fits, trackIn, lengthsIn, sheetSize}
-use Rattle.mmc.proofs.bytes.Steps.{both}
+use Rattle.basics.proofs.Tests.{both}
 use Rattle.mmc.proofs.sheet.Entries.{fits}
 use Rattle.mmc.specs.declared.order.Order.{Order}
 use Rattle.mmc.specs.declared.order.Track.{Track}

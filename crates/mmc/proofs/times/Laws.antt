@@ -9,7 +9,7 @@ use lib.IntN.{ℤ, pos, _+ℤ_, _-ℤ_, natAbs, +ℤ-negℤ-cancel, -ℤ-+ℤ-ca
 use lib.Dec.{leb}
 use borrow.Author.Tests.{le-leb, leb-true}
 use Rattle.mmc.specs.Times.{inRange, framesTo, addressAt, clock, isTime, framesOf, timeOf, addressOf}
-use Rattle.mmc.proofs.bytes.Steps.{both, known}
+use Rattle.basics.proofs.Tests.{both, known}
 use Rattle.mmc.specs.Refusals.{pass, refuse}
 use Rattle.mmc.proofs.times.Signed.{frames, less}
 use Rattle.mmc.specs.declared.units.BlockAddress.{BlockAddress}

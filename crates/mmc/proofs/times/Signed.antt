@@ -13,16 +13,8 @@ use mir.Val.{SFits, toZ, ofZ}
 use mir.Facts.{toZ-ofZ}
 use Rattle.mmc.specs.Times.{inRange, framesTo}
 use Rattle.mmc.specs.Commands.{twos}
-use Rattle.mmc.proofs.bytes.Steps.{both}
+use Rattle.basics.proofs.Tests.{both}
 use Rattle.mmc.specs.declared.units.BlockAddress.{BlockAddress}
-
--- `z + k` at an i64, where it is the number n: it fits, and n is what is read back
-module _ (z : ℤ) (k n : ℕ) (s : SFits w64 z) (e : z +ℤ pos k ≡ pos n) (h : n < 2 ^ 63) where
-  pub sum-fits : SFits w64 (toZ w64 (ofZ w64 z) +ℤ pos k)
-  sum-fits = rw (toZ-ofZ s, e) (record { sfits = h })
-
-  pub sum-is : toZ w64 (ofZ w64 (toZ w64 (ofZ w64 z) +ℤ pos k)) ≡ pos n
-  sum-is = toZ-ofZ sum-fits ∙ rw (toZ-ofZ s, e)
 
 -- an address in range is a number from 0 on or one of -150 to -1
 sorted : (z : ℤ) → leZ (negsuc 149) z && leZ z (pos 449849) ≡ true → ((n : ℕ) × (z ≡ pos n) × (n ≤ 449849)) ⊎ ((n : ℕ) × (z ≡ negsuc n) × (n ≤ 149))

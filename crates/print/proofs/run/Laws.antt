@@ -11,7 +11,7 @@ use borrow.Author.Tests.{le-leb, leb-true}
 use lib.Dec.{leb}
 use lib.ListN.{length, take, drop, length-append, length-drop, length-replicate, drop-of-length-le}
 use lib.Seq.{length-take-le, take-all, take-at, drop-drop, take-append-le, drop-append-le}
-use Rattle.mmc.specs.Bytes.{if, partOf}
+use Rattle.basics.specs.Bytes.{if, partOf}
 use Rattle.mmc.specs.Refusals.{pass, refuse, madeOf, answerOf, bufferOf}
 use Rattle.mmc.specs.Block.{sealed}
 use Rattle.mmc.specs.ReplyBlock.{replyOf, replyHead, replyBody, replyBytes, replyBlock}

@@ -6,7 +6,7 @@ use Prim.Native.Nat.{ℕ, zero, suc, _-_}
 use lib.ListN.{length, drop}
 use lib.Dec.{leb}
 use native.Mathlib.Omega.{arith}
-use Rattle.mmc.specs.Bytes.{if, bytes32}
+use Rattle.basics.specs.Bytes.{if, bytes32}
 use Rattle.mmc.specs.Refusals.{Outcome, pass, refuse, valueOr, answerOf, bufferOf, madeOf, Fills}
 use Rattle.mmc.specs.Commands.{sendCueSheet, writeRange, writeBytes, writeCommand, closeTrackSession}
 use Rattle.mmc.specs.Sheet.{sheetSize}
@@ -14,7 +14,7 @@ use Rattle.mmc.specs.declared.units.BlockAddress.{BlockAddress}
 use Rattle.mmc.specs.declared.refusals.Refusal.{Refusal}
 use Rattle.mmc.specs.declared.refusals.Made.{Made}
 use Rattle.mmc.specs.declared.refusals.Made.the-variants as M
-use Rattle.mmc.proofs.bytes.Steps.{zeros}
+use Rattle.basics.proofs.Lists.{zeros}
 use Rattle.recorder.specs.declared.script.Op.{Op}
 use Rattle.recorder.specs.declared.script.Op.the-variants.{GetConfiguration, ReadDiscInformation, ReadTrackInformation, ModeSelect, SendCueSheet, Write, SynchronizeCache, CloseTrack, CloseSession, Blank, TestUnitReady, RequestSense}
 use Rattle.recorder.specs.Answers.{madeBy, cdbOf, sheetBytes}

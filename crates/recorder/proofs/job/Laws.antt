@@ -9,7 +9,7 @@ use borrow.Author.Tests.{leb-true, not-true, not-false}
 use lib.Dec.{leb}
 use lib.ListN.{length, drop}
 use lib.Seq.{getD-drop}
-use Rattle.mmc.specs.Bytes.{if, be32}
+use Rattle.basics.specs.Bytes.{if, be32}
 use Rattle.mmc.specs.Refusals.{refuse, numberOf, checked, valueOr}
 use Rattle.mmc.specs.Order.{mostTracks, noOrder}
 use Rattle.mmc.specs.OrderBlock.{readOrder}
@@ -21,7 +21,7 @@ use Rattle.mmc.specs.declared.order.Method.the-variants.{Tao, Sao}
 use Rattle.mmc.specs.declared.refusals.Refusal.{Refusal}
 use Rattle.mmc.specs.declared.refusals.Check.{Check}
 use Rattle.mmc.specs.declared.refusals.Check.the-variants as C
-use Rattle.mmc.proofs.bytes.Steps.{Bytes}
+use Rattle.basics.proofs.Bytes.{Bytes}
 use Rattle.recorder.specs.declared.script.Op.{Op}
 use Rattle.recorder.specs.declared.script.Op.the-variants.{GetConfiguration, ReadDiscInformation, ReadTrackInformation, ModeSelect, SendCueSheet, Write, SynchronizeCache, CloseTrack, CloseSession, Blank, TestUnitReady, RequestSense}
 use Rattle.recorder.specs.declared.replies.TrackInformation.{TrackInformation}

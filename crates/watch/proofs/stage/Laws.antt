@@ -9,7 +9,7 @@ use lib.Dec.{leb}
 use lib.ListN.{length, take, drop, length-append, length-drop, length-replicate}
 use native.Mathlib.Decide.{decLe}
 use lib.Seq.{take-append-seam, take-all}
-use Rattle.mmc.specs.Bytes.{if, partOf}
+use Rattle.basics.specs.Bytes.{if, partOf}
 use Rattle.mmc.specs.Refusals.{pass, refuse, madeOf, answerOf, bufferOf}
 use Rattle.mmc.specs.Block.{sealed}
 use Rattle.mmc.specs.ReplyBlock.{replyOf, replyHead, replyBody, replyBytes, replyBlock, readReply}

@@ -5,7 +5,7 @@ use native.Mathlib.Omega.{arith}
 use lib.Bits.{bitXor, xor-lt}
 use lib.ListN.{length, getD, drop, drop-of-length-le}
 use borrow.Author.Needs.{needs}
-use Rattle.mmc.proofs.bytes.Steps.{drop-next}
+use Rattle.basics.proofs.Lists.{drop-next}
 use Rattle.cdtext.specs.Check.{AreRemainders, remainderFrom, inverted, checkOf}
 use Rattle.cdtext.proofs.check.Xor.{byte-law, step-lt}
 use Rattle.cdtext.proofs.check.check_of.Statement.{statement}

@@ -4,8 +4,8 @@ use native.Mathlib.Omega.{arith}
 use lib.ListN.{length, drop}
 use borrow.Author.Tests.{eq-eqb, ne-eqb}
 use borrow.Author.Needs.{needs}
-use Rattle.mmc.specs.Bytes.{sameBytes}
-use Rattle.mmc.proofs.bytes.Steps.{same-next, same-end}
+use Rattle.basics.specs.Bytes.{sameBytes}
+use Rattle.basics.proofs.Bytes.{same-next, same-end}
 use Rattle.cdtext.proofs.packs.same.Statement.{statement}
 use Rattle.cdtext.proofs.packs.same.Tie as tie
 

@@ -4,8 +4,8 @@ use Prim.Native.Nat.{ℕ}
 use lib.Dec.{eqb}
 use borrow.Author.Needs.{needs}
 use borrow.Author.Tests.{eq-eqb, ne-eqb, eqb-true}
-use Rattle.mmc.specs.Bytes.{if}
-use Rattle.mmc.proofs.bytes.Steps.{known, false-true}
+use Rattle.basics.specs.Bytes.{if}
+use Rattle.basics.proofs.Tests.{known, false-true}
 use Rattle.cdtext.specs.Titles.{isCharacter, titleLength}
 use Rattle.cdtext.proofs.titles.goes_on.Statement.{statement}
 use Rattle.cdtext.proofs.titles.goes_on.Tie as tie

@@ -1,9 +1,9 @@
 use mathlib.Core.Path.{_≡_, ap, _∙_}
 use lib.ListN.{drop}
-use Rattle.mmc.specs.Bytes.{be16}
+use Rattle.basics.specs.Bytes.{be16}
 use borrow.Author.Tests.{eq-eqb, ne-eqb}
 use Rattle.mmc.specs.Block.{blockFault, checkSum}
-use Rattle.mmc.proofs.bytes.Steps.{rest}
+use Rattle.basics.proofs.Lists.{rest}
 use borrow.Author.Needs.{needs}
 use Rattle.mmc.proofs.block.check_block.Statement.{statement}
 use Rattle.mmc.proofs.block.check_block.Tie as tie

@@ -3,8 +3,8 @@ use Prim.Native.Nat.{_≤_, _-_, zero-le}
 use native.Mathlib.Omega.{arith}
 use borrow.Author.Tests.{eq-eqb, ne-eqb}
 use lib.ListN.{length, drop}
-use Rattle.mmc.specs.Bytes.{allZero}
-use Rattle.mmc.proofs.bytes.Steps.{zero-next, zero-end}
+use Rattle.basics.specs.Bytes.{allZero}
+use Rattle.basics.proofs.Bytes.{zero-next, zero-end}
 use Rattle.mmc.proofs.bytes.all_zero.Statement.{statement}
 use Rattle.mmc.proofs.bytes.all_zero.Tie as tie
 

@@ -2,8 +2,8 @@ use mathlib.Core.Path.{_≡_}
 use Prim.Native.Nat.{_≤_, _-_, _+_, _*_, zero-le}
 use native.Mathlib.Omega.{arith}
 use lib.ListN.{length, drop}
-use Rattle.mmc.specs.Bytes.{sumOf}
-use Rattle.mmc.proofs.bytes.Steps.{sum-next, sum-end}
+use Rattle.basics.specs.Bytes.{sumOf}
+use Rattle.basics.proofs.Bytes.{sum-next, sum-end}
 use Rattle.mmc.proofs.bytes.byte_sum.Statement.{statement}
 use Rattle.mmc.proofs.bytes.byte_sum.Tie as tie
 

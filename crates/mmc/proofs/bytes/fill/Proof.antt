@@ -2,7 +2,7 @@ use mathlib.Core.Path.{_∙_}
 use native.Mathlib.Nat.{zero-add}
 use borrow.Author.Needs.{needs}
 use borrow.Author.Tests.{lt-leb, le-leb}
-use Rattle.mmc.specs.Bytes.{putAt}
+use Rattle.basics.specs.Bytes.{putAt}
 use Rattle.mmc.specs.Refusals.{answerOf, bufferOf}
 use Rattle.mmc.proofs.bytes.fill.Statement.{statement}
 use Rattle.mmc.proofs.bytes.fill.Tie as tie

@@ -1,4 +1,4 @@
-use Rattle.mmc.specs.Bytes.{be32}
+use Rattle.basics.specs.Bytes.{be32}
 use borrow.Author.Needs.{needs}
 use Rattle.mmc.proofs.bytes.number32.Statement.{statement}
 use Rattle.mmc.proofs.bytes.number32.Tie as tie

@@ -6,7 +6,7 @@ use native.Mathlib.Omega.{arith}
 use borrow.Author.Needs.{needs}
 use lib.ListN.{length, set, getD, length-set}
 use lib.Seq.{paste, paste-zero, paste-suc, take-length}
-use Rattle.mmc.specs.Bytes.{putAt}
+use Rattle.basics.specs.Bytes.{putAt}
 use Rattle.mmc.proofs.bytes.put.Statement.{statement}
 use Rattle.mmc.proofs.bytes.put.Tie as tie
 

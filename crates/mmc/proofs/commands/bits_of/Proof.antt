@@ -5,7 +5,8 @@ use lib.IntN.{ℤ, pos, _+ℤ_}
 use mir.Syntax.{w64}
 use mir.Val.{toZ, ofZ}
 use Rattle.mmc.specs.Commands.{twos}
-use Rattle.mmc.proofs.times.Signed.{raised, raise, sum-fits, sum-is}
+use Rattle.basics.proofs.Signed.{sum-fits, sum-is}
+use Rattle.mmc.proofs.times.Signed.{raised, raise}
 use Rattle.mmc.specs.declared.units.BlockAddress.{BlockAddress}
 use borrow.Author.Needs.{needs}
 use Rattle.mmc.proofs.commands.bits_of.Statement.{statement}

@@ -8,7 +8,7 @@ use borrow.Author.Tests.{not-true, not-false, leb-true}
 use Rattle.mmc.specs.Commands.{sendCueSheet}
 use Rattle.mmc.specs.Sheet.{sheetSize}
 use Rattle.mmc.specs.declared.refusals.Refusal.the-variants.{OutOfRange}
-use Rattle.mmc.proofs.bytes.Steps.{both}
+use Rattle.basics.proofs.Tests.{both}
 use Rattle.mmc.proofs.refusals.Laws.{fills-of, fills-not}
 use Rattle.mmc.proofs.commands.send_cue_sheet.Statement.{statement}
 use Rattle.mmc.proofs.commands.send_cue_sheet.Tie as tie

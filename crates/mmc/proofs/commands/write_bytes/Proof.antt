@@ -5,10 +5,10 @@ use mathlib.Core.Bool.{true, _&&_}
 use lib.Dec.{leb}
 use borrow.Author.Tests.{leb-true}
 use borrow.Author.Needs.{needs}
-use Rattle.mmc.specs.Bytes.{bytes32}
+use Rattle.basics.specs.Bytes.{bytes32}
 use Rattle.mmc.specs.Times.{inRange}
 use Rattle.mmc.specs.Commands.{writeRange, writeBytes}
-use Rattle.mmc.proofs.bytes.Steps.{both}
+use Rattle.basics.proofs.Tests.{both}
 use Rattle.mmc.proofs.commands.write_bytes.Statement.{statement}
 use Rattle.mmc.proofs.commands.write_bytes.Tie as tie
 

@@ -5,7 +5,8 @@ use lib.ListN.{length, drop, take}
 use borrow.Author.Tests.{lt-leb, le-leb}
 use borrow.Author.Needs.{needs}
 use Rattle.mmc.specs.Order.{allLong}
-use Rattle.mmc.proofs.order.Tracks.{mapped-length, capped, long-next, long-end}
+use Rattle.basics.proofs.Lists.{mapped-length}
+use Rattle.mmc.proofs.order.Tracks.{capped, long-next, long-end}
 use Rattle.mmc.proofs.order.all_long.Statement.{statement}
 use Rattle.mmc.proofs.order.all_long.Tie as tie
 

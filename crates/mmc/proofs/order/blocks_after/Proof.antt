@@ -5,7 +5,8 @@ use mathlib.Core.List.{List}
 use lib.ListN.{length, drop, take}
 use borrow.Author.Needs.{needs}
 use Rattle.mmc.specs.Order.{blocksOf}
-use Rattle.mmc.proofs.order.Tracks.{mapped-length, capped, blocks-next, blocks-end}
+use Rattle.basics.proofs.Lists.{mapped-length}
+use Rattle.mmc.proofs.order.Tracks.{capped, blocks-next, blocks-end}
 use Rattle.mmc.specs.declared.order.Track.{Track}
 use Rattle.mmc.proofs.order.blocks_after.Statement.{statement}
 use Rattle.mmc.proofs.order.blocks_after.Tie as tie

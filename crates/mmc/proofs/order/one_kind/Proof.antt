@@ -5,7 +5,8 @@ use lib.ListN.{length, drop, take}
 use borrow.Author.Tests.{not-true, not-false}
 use borrow.Author.Needs.{needs}
 use Rattle.mmc.specs.Order.{allKind}
-use Rattle.mmc.proofs.order.Tracks.{mapped-length, capped, kind-next, kind-end}
+use Rattle.basics.proofs.Lists.{mapped-length}
+use Rattle.mmc.proofs.order.Tracks.{capped, kind-next, kind-end}
 use Rattle.mmc.proofs.order.one_kind.Statement.{statement}
 use Rattle.mmc.proofs.order.one_kind.Tie as tie
 

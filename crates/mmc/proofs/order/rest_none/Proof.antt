@@ -5,7 +5,8 @@ use lib.ListN.{length, drop}
 use borrow.Author.Tests.{not-true, not-false}
 use borrow.Author.Needs.{needs}
 use Rattle.mmc.specs.Order.{allNone, noTrack}
-use Rattle.mmc.proofs.order.Tracks.{mapped-length, none-next, none-end}
+use Rattle.basics.proofs.Lists.{mapped-length}
+use Rattle.mmc.proofs.order.Tracks.{none-next, none-end}
 use Rattle.mmc.proofs.order.rest_none.Statement.{statement}
 use Rattle.mmc.proofs.order.rest_none.Tie as tie
 

@@ -1,7 +1,7 @@
 use lib.ListN.{length}
 use mathlib.Core.Path.{_≡_}
 use borrow.Author.Needs.{needs}
-use Rattle.mmc.proofs.order.Tracks.{mapped-length}
+use Rattle.basics.proofs.Lists.{mapped-length}
 use Rattle.mmc.proofs.order_block.Rows.{body-steps}
 use Rattle.mmc.proofs.order_block.put_body.Statement.{statement}
 use Rattle.mmc.proofs.order_block.put_body.Tie as tie

@@ -6,8 +6,8 @@ use lib.ListN.{length, drop, take}
 use borrow.Author.Needs.{needs}
 use Rattle.mmc.specs.OrderBlock.{rows, row}
 use Rattle.mmc.specs.Order.{noTrack}
-use Rattle.mmc.specs.Bytes.{bytes32}
-use Rattle.mmc.proofs.order.Tracks.{mapped-length}
+use Rattle.basics.specs.Bytes.{bytes32}
+use Rattle.basics.proofs.Lists.{mapped-length}
 use Rattle.mmc.proofs.order_block.Rows.{rows-start, rows-next, rows-end}
 use Rattle.mmc.proofs.order_block.put_rows.Statement.{statement}
 use Rattle.mmc.proofs.order_block.put_rows.Tie as tie

@@ -1,6 +1,6 @@
 use borrow.Author.Needs.{needs}
 use Rattle.mmc.specs.OrderBlock.{row}
-use Rattle.mmc.specs.Bytes.{bytes32}
+use Rattle.basics.specs.Bytes.{bytes32}
 use Rattle.mmc.proofs.order_block.row_of.Statement.{statement}
 use Rattle.mmc.proofs.order_block.row_of.Tie as tie
 

@@ -1,7 +1,7 @@
 use lib.Seq.{drop-drop, getD-drop}
 use native.Mathlib.Nat.{add-zero}
 use Rattle.mmc.specs.OrderBlock.{trackOf}
-use Rattle.mmc.proofs.bytes.Steps.{rest}
+use Rattle.basics.proofs.Lists.{rest}
 use borrow.Author.Needs.{needs}
 use Rattle.mmc.proofs.order_block.track_of.Statement.{statement}
 use Rattle.mmc.proofs.order_block.track_of.Tie as tie

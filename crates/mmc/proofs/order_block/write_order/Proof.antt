@@ -11,7 +11,7 @@ use Rattle.mmc.specs.Order.{validOrder}
 use Rattle.mmc.specs.OrderBlock.{orderBlock}
 use Rattle.mmc.specs.declared.refusals.Refusal.the-variants.{FieldValue}
 use Rattle.mmc.proofs.refusals.Laws.{fills-of, fills-not}
-use Rattle.mmc.proofs.order.Tracks.{mapped-length}
+use Rattle.basics.proofs.Lists.{mapped-length}
 use Rattle.mmc.proofs.order_block.Rows.{block-put}
 use Rattle.mmc.proofs.order_block.Laws.{reads-back}
 use Rattle.mmc.proofs.order_block.write_order.Statement.{statement}

@@ -1,6 +1,6 @@
 use mathlib.Core.Path.{ap, _∙_}
-use Rattle.mmc.specs.Bytes.{be16}
-use Rattle.mmc.proofs.bytes.Steps.{rest}
+use Rattle.basics.specs.Bytes.{be16}
+use Rattle.basics.proofs.Lists.{rest}
 use borrow.Author.Needs.{needs}
 use Rattle.mmc.proofs.reply_block.data_length.Statement.{statement}
 use Rattle.mmc.proofs.reply_block.data_length.Tie as tie

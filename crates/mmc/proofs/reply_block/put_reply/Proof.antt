@@ -1,10 +1,10 @@
 use Prim.Native.Nat.{ℕ}
 use mathlib.Core.Path.{refl, ap, _∙_}
 use mathlib.Core.List.{List, [], _∷_}
-use Rattle.mmc.specs.Bytes.{putAt, bytes16}
+use Rattle.basics.specs.Bytes.{putAt, bytes16}
 use Rattle.mmc.specs.ReplyBlock.{statusByte, replyHead}
 use lib.ListN.{length}
-use Rattle.mmc.proofs.bytes.Steps.{put-next}
+use Rattle.basics.proofs.Bytes.{put-next}
 use borrow.Author.Needs.{needs}
 use Rattle.mmc.proofs.reply_block.put_reply.Statement.{statement}
 use Rattle.mmc.proofs.reply_block.put_reply.Tie as tie

@@ -3,7 +3,7 @@ use mathlib.Core.Path.{_≡_}
 use Prim.Native.Nat.{_+_, _-_}
 use native.Mathlib.Omega.{arith}
 use borrow.Author.Tests.{lt-leb, le-leb}
-use Rattle.mmc.specs.Bytes.{partOf}
+use Rattle.basics.specs.Bytes.{partOf}
 use borrow.Author.Needs.{needs}
 use Rattle.mmc.proofs.reply_block.reply_data.Statement.{statement}
 use Rattle.mmc.proofs.reply_block.reply_data.Tie as tie

@@ -3,7 +3,7 @@ use Prim.Native.Nat.{ℕ, _+_, _-_}
 use native.Mathlib.Omega.{arith}
 use lib.ListN.{take, drop}
 use borrow.Author.Tests.{lt-leb, le-leb, eq-eqb, ne-eqb}
-use Rattle.mmc.specs.Bytes.{allZero}
+use Rattle.basics.specs.Bytes.{allZero}
 use Rattle.mmc.specs.ReplyBlock.{replyOk}
 use borrow.Author.Needs.{needs}
 use Rattle.mmc.proofs.reply_block.reply_ok.Statement.{statement}

@@ -7,7 +7,8 @@ use lib.Seq.{take-at}
 use Rattle.mmc.specs.Refusals.{pass}
 use Rattle.mmc.specs.Sheet.{sheetOf, sheetLength}
 use Rattle.mmc.proofs.refusals.Laws.{fills-of}
-use Rattle.mmc.proofs.order.Tracks.{mapped-length, valid-few}
+use Rattle.basics.proofs.Lists.{mapped-length}
+use Rattle.mmc.proofs.order.Tracks.{valid-few}
 use Rattle.mmc.proofs.sheet.Entries.{fits, sheeted}
 use Rattle.mmc.proofs.sheet.Laws.{sheet-length}
 use borrow.Author.Needs.{needs}

@@ -4,11 +4,11 @@ use Prim.Native.Nat.{ℕ, _-_}
 use native.Mathlib.Omega.{arith}
 use lib.ListN.{length, take, drop, replicate}
 use lib.Seq.{take-at}
-use Rattle.mmc.specs.Bytes.{sameBytes}
+use Rattle.basics.specs.Bytes.{sameBytes}
 use Rattle.mmc.specs.Refusals.{faultIn, numberOf}
 use Rattle.mmc.specs.Sheet.{isSheet, sheetOf, sheetLength, sheetFault}
 use Rattle.mmc.proofs.refusals.Laws.{numbered}
-use Rattle.mmc.proofs.order.Tracks.{mapped-length}
+use Rattle.basics.proofs.Lists.{mapped-length}
 use Rattle.mmc.proofs.sheet.Entries.{fits}
 use Rattle.mmc.proofs.sheet.Reading.{shape, in-length}
 use Rattle.mmc.proofs.sheet.Laws.{sheet-length}

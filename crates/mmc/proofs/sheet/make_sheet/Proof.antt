@@ -3,7 +3,7 @@ use lib.ListN.{length}
 use Rattle.mmc.specs.Refusals.{faultIn, numberOf}
 use Rattle.mmc.specs.Sheet.{cueSheet, sheetFault}
 use Rattle.mmc.proofs.refusals.Laws.{numbered, fills-of, fills-not}
-use Rattle.mmc.proofs.order.Tracks.{mapped-length}
+use Rattle.basics.proofs.Lists.{mapped-length}
 use Rattle.mmc.proofs.sheet.Laws.{reads-back, in-order}
 use borrow.Author.Needs.{needs}
 use Rattle.mmc.proofs.sheet.make_sheet.Statement.{statement}

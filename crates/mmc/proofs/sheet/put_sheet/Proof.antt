@@ -2,7 +2,7 @@ use mathlib.Core.Path.{_≡_}
 use native.Mathlib.Omega.{arith}
 use lib.ListN.{length}
 use borrow.Author.Needs.{needs}
-use Rattle.mmc.proofs.order.Tracks.{mapped-length}
+use Rattle.basics.proofs.Lists.{mapped-length}
 use Rattle.mmc.proofs.sheet.Entries.{sheet-steps}
 use Rattle.mmc.proofs.sheet.put_sheet.Statement.{statement}
 use Rattle.mmc.proofs.sheet.put_sheet.Tie as tie

@@ -1,7 +1,7 @@
 use mathlib.Core.Path.{_∙_}
 use Prim.Native.Nat.{_-_}
 use borrow.Author.Needs.{needs}
-use Rattle.mmc.proofs.order.Tracks.{mapped-length}
+use Rattle.basics.proofs.Lists.{mapped-length}
 use Rattle.mmc.proofs.sheet.Entries.{Putting, putting-start, putting-next, putting-end}
 use Rattle.mmc.proofs.sheet.put_tracks.Statement.{statement}
 use Rattle.mmc.proofs.sheet.put_tracks.Tie as tie

@@ -6,7 +6,8 @@ use mir.Syntax.{w64}
 use mir.Val.{toZ, ofZ}
 use borrow.Author.Needs.{needs}
 use Rattle.mmc.specs.Times.{framesTo}
-use Rattle.mmc.proofs.times.Signed.{frames, sum-fits, sum-is}
+use Rattle.basics.proofs.Signed.{sum-fits, sum-is}
+use Rattle.mmc.proofs.times.Signed.{frames}
 use Rattle.mmc.specs.declared.units.BlockAddress.{BlockAddress}
 use Rattle.mmc.proofs.times.frames_to.Statement.{statement}
 use Rattle.mmc.proofs.times.frames_to.Tie as tie

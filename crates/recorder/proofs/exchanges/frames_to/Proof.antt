@@ -6,7 +6,7 @@ use mir.Syntax.{w64}
 use mir.Val.{toZ, ofZ}
 use borrow.Author.Needs.{needs}
 use Rattle.mmc.specs.Times.{framesTo}
-use Rattle.mmc.proofs.times.Signed.{sum-fits, sum-is}
+use Rattle.basics.proofs.Signed.{sum-fits, sum-is}
 use Rattle.mmc.specs.declared.units.BlockAddress.{BlockAddress}
 use Rattle.recorder.proofs.exchanges.frames_to.Statement.{statement}
 use Rattle.recorder.proofs.exchanges.frames_to.Tie as tie

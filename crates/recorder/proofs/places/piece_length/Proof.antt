@@ -1,4 +1,4 @@
-use Rattle.mmc.proofs.order.Tracks.{mapped-length}
+use Rattle.basics.proofs.Lists.{mapped-length}
 use mathlib.Core.Path.{_≡_, refl, sym, ap}
 use Prim.Native.Nat.{ℕ, zero, suc, _-_, _<_}
 use lib.ListN.{length, getD, List·getD-eq-default}

@@ -8,8 +8,8 @@ use lib.IntN.{ℤ, pos}
 use mir.Syntax.{w64}
 use mir.Val.{toZ}
 use mir.Facts.{toZ-pos}
-use Rattle.mmc.specs.Bytes.{be32}
-use Rattle.mmc.proofs.bytes.Steps.{rest}
+use Rattle.basics.specs.Bytes.{be32}
+use Rattle.basics.proofs.Lists.{rest}
 use Rattle.recorder.specs.declared.replies.TrackInformation.{TrackInformation}
 use Rattle.recorder.specs.Replies.{byte, informationOf}
 use borrow.Author.Needs.{needs}

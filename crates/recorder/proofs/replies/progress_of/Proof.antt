@@ -1,5 +1,5 @@
 use borrow.Author.Tests.{eq-eqb, ne-eqb}
-use Rattle.mmc.proofs.bytes.Steps.{rest}
+use Rattle.basics.proofs.Lists.{rest}
 use Rattle.recorder.specs.Replies.{progressOf}
 use borrow.Author.Needs.{needs}
 use Rattle.recorder.proofs.replies.progress_of.Statement.{statement}

@@ -1,5 +1,5 @@
 use borrow.Author.Tests.{lt-leb, le-leb}
-use Rattle.mmc.proofs.bytes.Steps.{rest}
+use Rattle.basics.proofs.Lists.{rest}
 use Rattle.recorder.specs.Replies.{wholeProfile, readProfile}
 use borrow.Author.Needs.{needs}
 use Rattle.recorder.proofs.replies.read_profile.Statement.{statement}

@@ -1,48 +1,18 @@
--- Facts on bytes and on the tests over them that the proofs share.
+-- Laws on bytes, and on the tests over them.
 use mathlib.Core.Path.{_≡_, refl, sym, ap, _∙_}
 use mathlib.Core.List.{List, [], _∷_, _++_}
-use mathlib.Core.Bool.{Bool, true, false, _&&_}
-use Prim.Native.Nat.{ℕ, suc, zero, _+_, _-_, _*_, _/_, _%_, _≤_, _<_}
-use native.Mathlib.Numerals.{add-one}
+use mathlib.Core.Bool.{true, _&&_}
+use Prim.Native.Nat.{ℕ, suc, zero, _+_, _*_, _/_, _%_, _≤_, _<_}
 use native.Mathlib.Omega.{arith}
 use borrow.Author.Tests.{eq-eqb, eqb-true}
 use lib.Dec.{eqb}
-use lib.ListN.{length, getD, take, drop, replicate, drop-of-length-le, length-append, length-drop, length-replicate}
-use lib.Seq.{drop-cons, drop-drop, take-all, take-at, drop-at, length-take-le}
-use Rattle.mmc.specs.Bytes.{if, sumOf, allZero, sameBytes, putAt, be32, bytes32}
+use lib.ListN.{length, getD, take, drop, replicate, drop-of-length-le, length-append}
+use lib.Seq.{drop-drop, take-at, drop-at, length-take-le}
+use Rattle.basics.specs.Bytes.{sumOf, allZero, sameBytes, putAt, be32, bytes32}
+use Rattle.basics.proofs.Tests.{false-true, both}
+use Rattle.basics.proofs.Lists.{drop-next}
 
--- ---- tests
-
-pub false-true : false ≡ true → ⊥
-false-true e = let w : _≡_ {A = ℕ} 0 1 = cc in omega arith
-
--- both parts of a test that held
-pub both : (a b : Bool) → (a && b) ≡ true → (a ≡ true) × (b ≡ true)
-both true b e = (refl, e)
-both false b e = (e, absurd (false-true e))
-
--- a fault that is 0 took the way that may be
-pub if-zero : (t : Bool) (x y : ℕ) → 0 < y → if t x y ≡ 0 → t ≡ true
-if-zero true x y h e = refl
-if-zero false x y h e = absurd (never y h e)
-  where
-    never : (y : ℕ) → 0 < y → y ≡ 0 → ⊥
-    never y h e = omega arith
-
--- a test is true or false
-pub known {ℓ} : {X : Type ℓ} (b : Bool) → (b ≡ true → X) → (b ≡ false → X) → X
-known true f g = f refl
-known false f g = g refl
-
--- ---- one more element
-
--- what is left from i on is the element at i and what is left from i + 1 on
-pub drop-next : (s : List ℕ) (i : ℕ) → i < length s → drop i s ≡ getD s i 0 ∷ drop (i + 1) s
-drop-next s i h = rw (add-one, drop-cons s i 0)
-
--- a part that runs to the end
-pub rest : (s : List ℕ) (k : ℕ) → take (length s - k) (drop k s) ≡ drop k s
-rest s k = take-all (length s - k) (drop k s) (omega (arith, length-drop k s))
+-- ---- one more byte
 
 pub sum-next : (s : List ℕ) (i : ℕ) → i < length s → sumOf (drop i s) ≡ getD s i 0 + sumOf (drop (i + 1) s)
 unfolding sumOf
@@ -95,23 +65,6 @@ pub zeros-zero : (n : ℕ) → allZero (replicate n 0) ≡ true
 unfolding allZero
 zeros-zero zero = refl
 zeros-zero (suc n) = zeros-zero n
-
--- n zeros
-abbrev pub zeros : ℕ → List ℕ
-zeros n = replicate n 0
-
-pub drop-zeros : (k n : ℕ) → k ≤ n → drop k (zeros n) ≡ zeros (n - k)
-drop-zeros zero n h = let e : n - 0 ≡ n = omega arith in rw e
-drop-zeros (suc k) zero h = absurd (omega arith)
-drop-zeros (suc k) (suc n) h = let e : suc n - suc k ≡ n - k = omega arith in rw e (drop-zeros k n (omega arith))
-
-pub take-zeros : (k n : ℕ) → k ≤ n → take k (zeros n) ≡ zeros k
-take-zeros zero n h = refl
-take-zeros (suc k) zero h = absurd (omega arith)
-take-zeros (suc k) (suc n) h = ap (λ (l : List ℕ). 0 ∷ l) (take-zeros k n (omega arith))
-
-pub zeros-length : (n : ℕ) → length (zeros n) ≡ n
-zeros-length n = length-replicate n (zero)
 
 -- ---- numbers in bytes
 
