@@ -7,6 +7,7 @@ use lib.IntN.{ℤ, pos, negsuc}
 use lib.Dec.{leb}
 use Rattle.basics.specs.Bytes.{if, bytes16, bytes32}
 use Rattle.mmc.specs.Refusals.{Outcome, pass, refuse}
+use Rattle.mmc.specs.Page.{modeLength}
 use Rattle.mmc.specs.Sheet.{sheetSize}
 use Rattle.mmc.specs.Times.{inRange}
 use Rattle.mmc.specs.declared.units.BlockAddress.{BlockAddress}
@@ -27,7 +28,7 @@ readTrackInformation = 0x52 ∷ 0x01 ∷ replicate 3 0 ++ 0xFF ∷ 0 ∷ bytes16
 
 -- MODE SELECT: 55h, 10h in 1, length 60 in 7, 8
 abbrev pub modeSelect : List ℕ
-modeSelect = 0x55 ∷ 0x10 ∷ replicate 5 0 ++ bytes16 60 ++ 0 ∷ []
+modeSelect = 0x55 ∷ 0x10 ∷ replicate 5 0 ++ bytes16 modeLength ++ 0 ∷ []
 
 -- SEND CUE SHEET: 5Dh, length (8 times 4 to 102) in 6 to 8
 unfoldable pub sendCueSheet : ℕ → Outcome (List ℕ)

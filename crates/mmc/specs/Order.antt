@@ -1,9 +1,10 @@
 -- An order of tracks, and what is judged of it.
 use Prim.Native.Nat.{ℕ, _+_}
 use mathlib.Core.List.{List, [], _∷_}
-use mathlib.Core.Bool.{Bool, true, false, _&&_}
+use mathlib.Core.Bool.{Bool, true, false, not, _&&_, _||_}
 use lib.ListN.{getD, take, drop, replicate}
-use lib.Dec.{eqb, leb}
+use lib.Dec.{eqb, leb, ltb}
+use Rattle.mmc.specs.Times.{lastAddress}
 use Rattle.mmc.specs.declared.order.Order.{Order}
 use Rattle.mmc.specs.declared.order.Track.{Track}
 use Rattle.mmc.specs.declared.order.Kind.{Kind}
@@ -15,7 +16,7 @@ use Rattle.mmc.specs.declared.order.Method.the-variants.{Tao, Sao}
 abbrev pub mostTracks : ℕ
 mostTracks = 99
 
--- 9: "a track has fewer than 300 blocks"
+-- the 300 of 9
 abbrev pub leastBlocks : ℕ
 leastBlocks = 300
 
@@ -73,3 +74,23 @@ allLong (t ∷ ts) = leb leastBlocks (t .length .0) && allLong ts
 unfoldable pub blocksOf : List Track → ℕ
 blocksOf [] = 0
 blocksOf (t ∷ ts) = t .length .0 + blocksOf ts
+
+-- ---- the numbers 8, 9 and 10, as far as the order alone decides them
+
+-- 8: "SAO with mixed kinds or with keep appendable"; the page maker judges the second alone
+abbrev pub keepsSao : Order → Bool
+keepsSao o = isSao (o .method) && o .keep
+
+abbrev pub mixesSao : Order → Bool
+mixesSao o = isSao (o .method) && not (allKind (orderKind o) (tracksIn o))
+
+unfoldable pub mixedOrKept : Order → Bool
+mixedOrKept o = keepsSao o || mixesSao o
+
+-- 9: "a track has fewer than 300 blocks"
+abbrev pub shortTrack : Order → Bool
+shortTrack o = not (allLong (tracksIn o))
+
+-- 10 for the lead-out limit, where the first track starts at 0: "in SAO it is S"
+unfoldable pub overlong : Order → Bool
+overlong o = ltb lastAddress (blocksOf (tracksIn o))

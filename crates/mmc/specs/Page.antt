@@ -1,14 +1,16 @@
 -- The mode data of MODE SELECT: "8 zero bytes, then a page of 52".
+use mathlib.Core.Path.{_≡_}
 use Prim.Native.Nat.{ℕ, _+_}
-use mathlib.Core.List.{List, _∷_, _++_}
-use mathlib.Core.Bool.{Bool, _&&_}
-use lib.ListN.{replicate}
+use mathlib.Core.List.{List, [], _∷_, _++_}
+use mathlib.Core.Bool.{Bool, not}
+use lib.ListN.{length, replicate}
 use Rattle.basics.specs.Bytes.{if, bytes16}
-use Rattle.mmc.specs.Refusals.{Outcome, pass, refuse}
-use Rattle.mmc.specs.Order.{validOrder, isSao}
+use Rattle.mmc.specs.Refusals.{Outcome, pass, test, faultOf, unless, Fills}
+use Rattle.mmc.specs.Order.{validOrder, keepsSao}
 use Rattle.mmc.specs.declared.order.Order.{Order}
 use Rattle.mmc.specs.declared.order.Kind.{Kind}
 use Rattle.mmc.specs.declared.order.Kind.the-variants.{Audio, Data}
+use Rattle.mmc.specs.declared.refusals.Made.{Made}
 use Rattle.mmc.specs.declared.order.Method.{Method}
 use Rattle.mmc.specs.declared.order.Method.the-variants.{Tao, Sao}
 
@@ -49,10 +51,19 @@ page o k =
 unfoldable pub modeBytes : Order → Kind → List ℕ
 modeBytes o k = replicate 8 0 ++ page o k
 
--- 8: "SAO .. with keep appendable"
-abbrev pub keepsSao : Order → Bool
-keepsSao o = isSao (o .method) && o .keep
+-- 3, then "8 for SAO with keep appendable"; 0: neither
+unfoldable pub pageFault : Order → ℕ
+pageFault o = faultOf (test (not (validOrder o)) 3 ∷ test (keepsSao o) 8 ∷ [])
 
--- the mode data of an order for its tracks of a kind: 3, then 8
+-- the mode data of an order for its tracks of a kind
 unfoldable pub modeData : Order → Kind → Outcome (List ℕ)
-modeData o k = if (validOrder o) (if (keepsSao o) (refuse 8) (pass (modeBytes o k))) (refuse 3)
+modeData o k = unless (pageFault o) (modeBytes o k)
+
+-- the "length 60" of MODE SELECT
+abbrev pub modeLength : ℕ
+modeLength = 60
+
+-- what the maker promises: the mode data, and that they have the length that MODE SELECT bears
+pub record MakesModeData (o : Order) (k : Kind) (r : Made) (before after : List ℕ) : Type 0 where
+  pub filled : Fills (modeData o k) r before after
+  pub size : (b : List ℕ) → modeData o k ≡ pass b → length b ≡ modeLength

@@ -1,6 +1,7 @@
 -- The numbers a refusal bears, and what the answers that can be a refusal say.
 use mathlib.Core.Path.{_≡_}
-use mathlib.Core.List.{List, _++_}
+use mathlib.Core.Bool.{Bool}
+use mathlib.Core.List.{List, [], _∷_, _++_}
 use Prim.Native.Nat.{ℕ}
 use lib.ListN.{length, drop}
 use lib.Dec.{leb, eqb}
@@ -35,6 +36,19 @@ numberOf JobEnded = 13
 numberOf NoCueSheet = 14
 numberOf OutOfRange = 15
 numberOf NotErasable = 16
+
+-- a number of the table, and whether it applies
+pub record Test : Type 0 where
+  pub applies : Bool
+  pub number : ℕ
+
+abbrev pub test : Bool → ℕ → Test
+test b n = record { applies = b; number = n }
+
+-- "The lowest applying number is given": the first of these; 0 where none applies
+abbrev pub faultOf : List Test → ℕ
+faultOf [] = 0
+faultOf (t ∷ ts) = if (t .applies) (t .number) (faultOf ts)
 
 -- what a maker's answer says: how many bytes, or the number
 abbrev pub madeOf : Made → Outcome ℕ

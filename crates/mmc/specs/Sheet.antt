@@ -1,15 +1,19 @@
 -- The cue sheet of a session at once: which orders have one, its bytes, and what a reader finds.
 use mathlib.Core.Path.{_≡_}
 use Prim.Native.Nat.{ℕ, zero, suc, _+_, _*_, _-_, _/_, _%_, _≤_, _<_}
-use mathlib.Core.List.{List, [], _∷_, _++_}
-use mathlib.Core.Bool.{Bool, false, _&&_}
-use lib.ListN.{length, getD, drop, replicate}
+use mathlib.Core.List.{List, [], _∷_, _++_, map}
+use mathlib.Core.Bool.{Bool, false, not, _&&_}
+use lib.IntN.{pos, _+ℤ_}
+use lib.ListN.{length, getD, take, drop, replicate}
 use lib.Dec.{eqb, leb}
 use Rattle.basics.specs.Bytes.{if, sameBytes}
-use Rattle.mmc.specs.Refusals.{Outcome, pass, refuse, checked, valueOr, unless, Fills}
-use Rattle.mmc.specs.Order.{mostTracks, noTrack, validOrder, isSao, tracksIn, orderKind, allKind, allLong, blocksOf}
-use Rattle.mmc.specs.Times.{lastAddress, leadFrames, clock, framesOf}
+use Rattle.mmc.specs.Refusals.{Outcome, pass, refuse, test, faultOf, checked, valueOr, unless, Fills}
+use Rattle.mmc.specs.Order.{mostTracks, noTrack, validOrder, isSao, tracksIn, orderKind, blocksOf, mixedOrKept, shortTrack, overlong}
+use Rattle.mmc.specs.Times.{firstAddress, lastAddress, timeAt, framesOf}
+use Rattle.mmc.specs.declared.units.BlockAddress.{BlockAddress}
+use Rattle.mmc.specs.declared.units.BlockCount.{BlockCount}
 use Rattle.mmc.specs.declared.units.FrameCount.{FrameCount}
+use Rattle.mmc.specs.declared.units.TrackNumber.{TrackNumber}
 use Rattle.mmc.specs.declared.order.Order.{Order}
 use Rattle.mmc.specs.declared.order.Track.{Track}
 use Rattle.mmc.specs.declared.order.Kind.{Kind}
@@ -21,19 +25,16 @@ use Rattle.mmc.specs.declared.refusals.Made.{Made}
 
 -- ---- which orders have a sheet
 
--- 3: no order, or a TAO order; 8: keep appendable, or mixed kinds; 9: a short track; 10: the lead-out limit; 0: none of them
+-- "the sheet maker 3 (a TAO order too), 8, 9, 10 for the lead-out limit alone"; 0: none of them
 unfoldable pub sheetFault : Order → ℕ
 sheetFault o =
-    if (validOrder o)
-    (if (isSao (o .method))
-    (if (o .keep) 8
-    (if (allKind (orderKind o) (tracksIn o))
-    (if (allLong (tracksIn o))
-    (if (leb (blocksOf (tracksIn o)) lastAddress) 0 10)
-    9)
-    8))
-    3)
-    3
+    faultOf (
+    test (not (validOrder o)) 3
+    ∷ test (not (isSao (o .method))) 3
+    ∷ test (mixedOrKept o) 8
+    ∷ test (shortTrack o) 9
+    ∷ test (overlong o) 10
+    ∷ [])
 
 -- ---- the sheet
 
@@ -53,113 +54,136 @@ edgeForm Audio = 0x01
 edgeForm Data = 0x14
 
 -- "Entries of 8 bytes: CTL|ADR, TNO, INDEX, form, 0, M, S, F, in plain binary."
-unfoldable pub entry : Kind → ℕ → ℕ → ℕ → FrameCount → List ℕ
-entry k track index form at =
-    controlOf k ∷ track ∷ index ∷ form ∷ 0 ∷ clock at .minute ∷ clock at .second ∷ clock at .frame ∷ []
+unfoldable pub cueEntry : Kind → TrackNumber → ℕ → ℕ → BlockAddress → List ℕ
+cueEntry k track index form at =
+    controlOf k ∷ track .0 ∷ index ∷ form ∷ 0 ∷ timeAt at .minute ∷ timeAt at .second ∷ timeAt at .frame ∷ []
 
--- the frames to an address from 0 on
-abbrev pub timeAt : ℕ → FrameCount
-timeAt address = record { 0 = address + leadFrames }
+-- lead-in (0, 0), and track 1 index 0, the pause: both at 00:00:00, which is address -150
+unfoldable pub leadInEntry : Kind → List ℕ
+leadInEntry k = cueEntry k (record { 0 = 0 }) 0 (edgeForm k) (record { 0 = firstAddress })
 
--- lead-in (0, 0), and track 1 index 0, the pause: both at 00:00:00
-unfoldable pub leadIn : Kind → List ℕ
-leadIn k = entry k 0 0 (edgeForm k) (record { 0 = 0 })
+unfoldable pub pauseEntry : Kind → List ℕ
+pauseEntry k = cueEntry k (record { 0 = 1 }) 0 (trackForm k) (record { 0 = firstAddress })
 
-unfoldable pub pauseOf : Kind → List ℕ
-pauseOf k = entry k 1 0 (trackForm k) (record { 0 = 0 })
+-- index 1 of a track, at an address; and the lead-out (AAh, 1) at one
+unfoldable pub startEntry : Kind → TrackNumber → BlockAddress → List ℕ
+startEntry k track at = cueEntry k track 1 (trackForm k) at
 
--- index 1 of the track with the number n, which starts at an address; and the lead-out (AAh, 1) at one
-unfoldable pub startOf : Kind → ℕ → ℕ → List ℕ
-startOf k n address = entry k n 1 (trackForm k) (timeAt address)
+unfoldable pub leadOutEntry : Kind → BlockAddress → List ℕ
+leadOutEntry k at = cueEntry k (record { 0 = 0xAA }) 1 (edgeForm k) at
 
-unfoldable pub leadOut : Kind → ℕ → List ℕ
-leadOut k address = entry k 0xAA 1 (edgeForm k) (timeAt address)
+abbrev pub nextTrack : TrackNumber → TrackNumber
+nextTrack n = record { 0 = n .0 + 1 }
 
--- each track's index 1, the first with the number n at an address, "each later one where its forerunner ends"; then the lead-out
-unfoldable pub trackEntries : Kind → ℕ → ℕ → List Track → List ℕ
-trackEntries k n address [] = leadOut k address
-trackEntries k n address (t ∷ ts) = startOf k n address ++ trackEntries k (n + 1) (address + t .length .0) ts
+-- the address behind so many blocks from an address on
+abbrev pub behind : BlockAddress → BlockCount → BlockAddress
+behind at n = record { 0 = at .0 +ℤ pos (n .0) }
 
--- lead-in, pause, tracks from number 1 and address 0 on, lead-out: n + 3 entries
+-- each track's index 1, the first with a number at an address, "each later one where its forerunner ends"; then the lead-out
+unfoldable pub trackEntries : Kind → TrackNumber → BlockAddress → List Track → List ℕ
+trackEntries k n at [] = leadOutEntry k at
+trackEntries k n at (t ∷ ts) = startEntry k n at ++ trackEntries k (nextTrack n) (behind at (t .length)) ts
+
+-- "Track 1 starts at address 0"
+abbrev pub allEntries : Order → List ℕ
+allEntries o = trackEntries (orderKind o) (record { 0 = 1 }) (record { 0 = pos 0 }) (tracksIn o)
+
+-- lead-in, pause, tracks, lead-out
 unfoldable pub sheetOf : Order → List ℕ
-sheetOf o = leadIn (orderKind o) ++ pauseOf (orderKind o) ++ trackEntries (orderKind o) 1 0 (tracksIn o)
+sheetOf o = leadInEntry (orderKind o) ++ pauseEntry (orderKind o) ++ allEntries o
 
-abbrev pub sheetLength : Order → ℕ
-sheetLength o = 8 * (o .count + 3)
+-- "So n+3 entries", of n tracks
+abbrev pub sheetBytes : ℕ → ℕ
+sheetBytes n = 8 * (n + 3)
 
--- 8 bytes for each of 4 to 102 entries
+-- "8 times 4 to 102"
 unfoldable pub sheetSize : ℕ → Bool
-sheetSize n = leb 32 n && (leb n 816 && eqb (n % 8) 0)
+sheetSize n = leb (sheetBytes 1) n && (leb n (sheetBytes mostTracks) && eqb (n % 8) 0)
 
 -- the cue sheet of an order
 unfoldable pub cueSheet : Order → Outcome (List ℕ)
 cueSheet o = unless (sheetFault o) (sheetOf o)
 
--- what the inner makers need: the tracks lie in the array, every time is below 100 minutes, and there is room
-pub record Fits (o : Order) (room : ℕ) : Type 0 where
+-- what the inner makers need: the tracks lie in the array, every address has a time, and there is room
+pub record HasRoom (o : Order) (room : ℕ) : Type 0 where
   pub few : o .count ≤ mostTracks
   pub ends : blocksOf (tracksIn o) ≤ lastAddress
-  pub holds : 8 * (o .count + 3) ≤ room
+  pub holds : sheetBytes (o .count) ≤ room
 
--- ---- what a reader finds
-
--- the time of an entry in frames
-unfoldable pub framesIn : List ℕ → ℕ
-framesIn b = framesOf (record { minute = getD b 5 0; second = getD b 6 0; frame = getD b 7 0 }) .0
+-- ---- what a reader finds: "A sheet reads back to kind and lengths."
 
 abbrev pub kindIn : ℕ → Kind
 kindIn control = if (eqb control 0x41) Data Audio
 
+-- the time of an entry
+unfoldable pub framesIn : List ℕ → FrameCount
+framesIn b = framesOf (record { minute = getD b 5 0; second = getD b 6 0; frame = getD b 7 0 })
+
 -- a track is as long as the next entry's time lies behind its own
-unfoldable pub trackIn : Kind → List ℕ → Track
-trackIn k b = record { kind = k; length = record { 0 = framesIn (drop 8 b) - framesIn b } }
+unfoldable pub lengthIn : List ℕ → BlockCount
+lengthIn b = record { 0 = framesIn (drop 8 b) .0 - framesIn b .0 }
 
-unfoldable pub lengthsIn : Kind → ℕ → List ℕ → List Track
-lengthsIn k zero b = []
-lengthsIn k (suc n) b = trackIn k b ∷ lengthsIn k n (drop 8 b)
+unfoldable pub lengthsIn : ℕ → List ℕ → List BlockCount
+lengthsIn zero b = []
+lengthsIn (suc n) b = lengthIn b ∷ lengthsIn n (drop 8 b)
 
-abbrev pub countIn : List ℕ → ℕ
-countIn b = length b / 8 - 3
+abbrev pub noLength : BlockCount
+noLength = record { 0 = 0 }
 
--- the SAO order without flags that the times give, whatever else the bytes hold
-unfoldable pub orderIn : List ℕ → Order
-orderIn b =
+-- one entry a track, but for lead-in, pause and lead-out
+abbrev pub tracksBeside : List ℕ → ℕ
+tracksBeside b = length b / 8 - 3
+
+-- the kind and the lengths that the bytes give, whatever else they hold
+unfoldable pub sheetIn : List ℕ → Sheet
+sheetIn b =
+    record {
+      kind = kindIn (getD b 0 0);
+      count = tracksBeside b;
+      lengths = lengthsIn (tracksBeside b) (drop 16 b) ++ replicate (mostTracks - tracksBeside b) noLength;
+    }
+
+-- the SAO order without flags that a sheet is for
+abbrev pub trackFor : Kind → BlockCount → Track
+trackFor k n = record { kind = k; length = n }
+
+unfoldable pub orderFor : Sheet → Order
+orderFor s =
     record {
       method = Sao;
       keep = false;
       protect = false;
       immed = false;
       erase = false;
-      count = countIn b;
-      tracks = lengthsIn (kindIn (getD b 0 0)) (countIn b) (drop 16 b) ++ replicate (mostTracks - countIn b) noTrack;
+      count = s .count;
+      tracks = map (trackFor (s .kind)) (take (s .count) (s .lengths)) ++ replicate (mostTracks - s .count) noTrack;
     }
 
--- the order that the times give has a sheet, and it is these bytes
+-- the order of kind and lengths has a sheet, and it is these bytes
 unfoldable pub isSheet : List ℕ → Bool
-isSheet b = sheetSize (length b) && (eqb (sheetFault (orderIn b)) 0 && sameBytes (sheetOf (orderIn b)) b)
-
--- "A sheet reads back to kind and lengths."
-abbrev pub sheetFor : Order → Sheet
-sheetFor o = record { kind = orderKind o; count = o .count; tracks = o .tracks }
-
--- the SAO order without flags that a sheet is for
-abbrev pub orderFor : Sheet → Order
-orderFor s = record { method = Sao; keep = false; protect = false; immed = false; erase = false; count = s .count; tracks = s .tracks }
-
--- what stands where there is no sheet
-unfoldable pub noSheet : Sheet
-noSheet = record { kind = Audio; count = 0; tracks = replicate mostTracks noTrack }
+isSheet b = sheetSize (length b) && (eqb (sheetFault (orderFor (sheetIn b))) 0 && sameBytes (sheetOf (orderFor (sheetIn b))) b)
 
 -- 14: "bytes are no cue sheet of an SAO order that passes 3, 8, 9 and the lead-out limit"
 unfoldable pub readSheet : List ℕ → Outcome Sheet
-readSheet b = if (isSheet b) (pass (sheetFor (orderIn b))) (refuse 14)
+readSheet b = if (isSheet b) (pass (sheetIn b)) (refuse 14)
+
+-- what stands where there is no sheet
+unfoldable pub noSheet : Sheet
+noSheet = record { kind = Audio; count = 0; lengths = replicate mostTracks noLength }
+
+-- kind and lengths of an order
+abbrev pub lengthOf : Track → BlockCount
+lengthOf t = t .length
+
+unfoldable pub sheetFor : Order → Sheet
+sheetFor o = record { kind = orderKind o; count = o .count; lengths = map lengthOf (o .tracks) }
 
 -- ---- the order of the entries
 
 -- the times of n entries in frames
 unfoldable pub timesIn : ℕ → List ℕ → List ℕ
 timesIn zero b = []
-timesIn (suc n) b = framesIn b ∷ timesIn n (drop 8 b)
+timesIn (suc n) b = framesIn b .0 ∷ timesIn n (drop 8 b)
 
 -- each number is below the one after it
 abbrev pub Below : ℕ → List ℕ → Type 0
@@ -177,9 +201,10 @@ pub record Ordered (n : ℕ) (b : List ℕ) : Type 0 where
 
 -- ---- the contracts
 
--- what the maker promises: the sheet, that it reads back, and that its times are in order
+-- what the maker promises: the sheet, the length that SEND CUE SHEET bears, that it reads back, and that its times are in order
 pub record MakesSheet (o : Order) (r : Made) (before after : List ℕ) : Type 0 where
   pub filled : Fills (cueSheet o) r before after
+  pub size : (b : List ℕ) → cueSheet o ≡ pass b → length b ≡ sheetBytes (o .count)
   pub reads-back : (b : List ℕ) → cueSheet o ≡ pass b → readSheet b ≡ pass (sheetFor o)
   pub ordered : (b : List ℕ) → cueSheet o ≡ pass b → Ordered (o .count) b
 

@@ -28,9 +28,13 @@ leadFrames = 150
 abbrev pub allFrames : ℕ
 allFrames = 450000
 
--- -150 to 449,849 (`negsuc n` is -(n + 1))
+-- the first address that has a time, where the pause of a session at once starts (`negsuc n` is -(n + 1))
+abbrev pub firstAddress : ℤ
+firstAddress = negsuc 149
+
+-- -150 to 449,849
 unfoldable pub inRange : BlockAddress → Bool
-inRange a = leZ (negsuc 149) (a .0) && leZ (a .0) (pos lastAddress)
+inRange a = leZ firstAddress (a .0) && leZ (a .0) (pos lastAddress)
 
 -- the frames to an address, and the address at a count of frames
 unfoldable pub framesTo : BlockAddress → FrameCount
@@ -49,9 +53,13 @@ clock f = record { minute = f .0 / 75 / 60; second = f .0 / 75 % 60; frame = f .
 abbrev pub framesOf : Time → FrameCount
 framesOf t = record { 0 = (t .minute * 60 + t .second) * 75 + t .frame }
 
+-- the time of an address that has one
+abbrev pub timeAt : BlockAddress → Time
+timeAt a = clock (framesTo a)
+
 -- the time of an address and the address of a time: 15 outside the range
 unfoldable pub timeOf : BlockAddress → Outcome Time
-timeOf a = if (inRange a) (pass (clock (framesTo a))) (refuse 15)
+timeOf a = if (inRange a) (pass (timeAt a)) (refuse 15)
 
 unfoldable pub addressOf : Time → Outcome BlockAddress
 addressOf t = if (isTime t) (pass (addressAt (framesOf t))) (refuse 15)

@@ -2,7 +2,8 @@
 ghost use mathlib.Core.Path.{_≡_};
 ghost use Prim.Native.Nat.{_≤_, _<_, min};
 ghost use lib.ListN.{drop};
-ghost use Rattle.mmc.specs.Order.{noTrack, isNone, allNone, noOrder, validOrder, tracksIn, sameKind, isSao, orderKind, allKind, allLong, blocksOf};
+ghost use Rattle.mmc.specs.Order.{noTrack, isNone, allNone, noOrder, validOrder, tracksIn, sameKind, isSao, orderKind, allKind, allLong, blocksOf, keepsSao, mixedOrKept, overlong};
+use crate::times::LAST_ADDRESS;
 use crate::units::BlockCount;
 use crate::units::BlockSum;
 
@@ -34,10 +35,13 @@ pub struct Order {
 }
 
 // An order has so many tracks at most.
-const MOST_TRACKS: u8 = 99;
+pub const MOST_TRACKS: u8 = 99;
 
 // A track has so many blocks at least.
 const LEAST_BLOCKS: u64 = 300;
+
+// The lead-out stands at this address at most.
+const LAST_LEAD_OUT: u64 = LAST_ADDRESS as u64;
 
 // What stands where there is no track.
 pub(crate) fn no_track() -> Track
@@ -161,7 +165,7 @@ pub(crate) fn track_count(o: Order) -> usize
 }
 
 // Whether all tracks are of one kind.
-pub fn one_kind(o: Order) -> bool
+fn one_kind(o: Order) -> bool
     ensures { λ r. ⌜ r ≡ allKind (orderKind o) (tracksIn o) ⌝ }
 {
     let n = track_count(o);
@@ -206,4 +210,38 @@ pub fn blocks_after(o: Order, first: usize) -> BlockSum
         i = i + 1;
     }
     BlockSum(sum)
+}
+
+// Whether a session at once is to be kept appendable.
+pub(crate) fn keeps_sao(o: Order) -> bool
+    ensures { λ r. ⌜ r ≡ keepsSao o ⌝ }
+{
+    let m = o.method;
+    match m {
+        Method::Tao => false,
+        Method::Sao => o.keep,
+    }
+}
+
+// 8: a session at once of mixed kinds, or to be kept appendable.
+pub fn mixed_or_kept(o: Order) -> bool
+    ensures { λ r. ⌜ r ≡ mixedOrKept o ⌝ }
+{
+    let m = o.method;
+    match m {
+        Method::Tao => false,
+        Method::Sao => {
+            if o.keep {
+                return true;
+            }
+            !one_kind(o)
+        }
+    }
+}
+
+// 10 where the first track starts at address 0: the lead-out would stand past the last address for one.
+pub fn is_overlong(o: Order) -> bool
+    ensures { λ r. ⌜ r ≡ overlong o ⌝ }
+{
+    LAST_LEAD_OUT < blocks_after(o, 0).0
 }

@@ -1,13 +1,13 @@
 // The mode data of MODE SELECT: a header and the write parameters page.
 ghost use mathlib.Core.Path.{_≡_};
 ghost use Prim.Native.Nat.{_≤_};
-ghost use Rattle.mmc.specs.Page.{protectBits, writeType, sessionBits, trackMode, blockType, keepsSao, modeBytes, modeData};
-ghost use Rattle.mmc.specs.Refusals.{Fills};
+ghost use Rattle.mmc.specs.Page.{protectBits, writeType, sessionBits, trackMode, blockType, modeBytes, MakesModeData};
 use crate::bytes::fill;
 use crate::order::Kind;
 use crate::order::Method;
 use crate::order::Order;
 use crate::order::is_valid;
+use crate::order::keeps_sao;
 use crate::refusals::Made;
 use crate::refusals::Refusal;
 
@@ -50,17 +50,6 @@ fn block_type(k: Kind) -> u8
     }
 }
 
-// Whether a session at once is to be kept appendable.
-fn keeps_sao(o: Order) -> bool
-    ensures { λ r. ⌜ r ≡ keepsSao o ⌝ }
-{
-    let m = o.method;
-    match m {
-        Method::Tao => false,
-        Method::Sao => o.keep,
-    }
-}
-
 // The 60 bytes of mode data for tracks of a kind.
 fn mode_bytes(o: Order, k: Kind) -> [u8; 60]
     ensures { λ r. ⌜ r ≡ modeBytes o k ⌝ }
@@ -78,7 +67,7 @@ fn mode_bytes(o: Order, k: Kind) -> [u8; 60]
 
 // Makes the mode data of an order for its tracks of a kind: 3, 8, then 11.
 pub fn mode_data(o: Order, k: Kind, out: &mut [u8]) -> Made
-    ensures { λ r. ⌜ Fills (modeData o k) r (now (out .entry)) (now (out .exit)) ⌝ }
+    ensures { λ r. ⌜ MakesModeData o k r (now (out .entry)) (now (out .exit)) ⌝ }
 {
     if !is_valid(o) {
         return Made::Refused(Refusal::FieldValue);

@@ -1,43 +1,47 @@
 // The cue sheet of a session at once: made from an order, and read back to kind and lengths.
 ghost use mathlib.Core.Path.{_≡_};
 ghost use mathlib.Core.Bool.{true};
-ghost use mathlib.Core.List.{_++_};
+ghost use mathlib.Core.List.{_++_, map};
 ghost use Prim.Native.Nat.{_+_, _-_, _*_, _≤_, _<_};
-ghost use lib.ListN.{length, drop, replicate};
+ghost use lib.ListN.{length, take, drop, replicate};
 ghost use Rattle.basics.specs.Bytes.{putAt};
-ghost use Rattle.mmc.specs.Order.{noTrack, orderKind, tracksIn};
+ghost use Rattle.mmc.specs.Order.{mostTracks, noTrack};
 ghost use Rattle.mmc.specs.Refusals.{pass, faultIn, Fills};
-ghost use Rattle.mmc.specs.Sheet.{sheetFault, sheetSize, controlOf, trackForm, edgeForm, entry, leadIn, pauseOf, startOf, leadOut, trackEntries, sheetOf, sheetLength, Fits, framesIn, kindIn, trackIn, lengthsIn, orderIn, noSheet, isSheet, MakesSheet, ReadsSheet};
-ghost use Rattle.mmc.specs.Times.{allFrames, lastAddress};
+ghost use Rattle.mmc.specs.Sheet.{sheetFault, sheetSize, controlOf, trackForm, edgeForm, cueEntry, leadInEntry, pauseEntry, startEntry, leadOutEntry, behind, allEntries, sheetOf, sheetBytes, HasRoom, kindIn, framesIn, lengthIn, lengthsIn, noLength, sheetIn, trackFor, orderFor, noSheet, isSheet, MakesSheet, ReadsSheet};
+ghost use Rattle.mmc.specs.Times.{inRange};
 use crate::bytes::byte_at;
 use crate::bytes::fill;
 use crate::bytes::put;
 use crate::bytes::same;
 use crate::order::Kind;
+use crate::order::MOST_TRACKS;
 use crate::order::Method;
 use crate::order::Order;
 use crate::order::Track;
 use crate::order::all_long;
-use crate::order::blocks_after;
+use crate::order::is_overlong;
 use crate::order::is_sao;
 use crate::order::is_valid;
+use crate::order::mixed_or_kept;
 use crate::order::no_track;
-use crate::order::one_kind;
 use crate::order::order_kind;
-use crate::order::track_blocks;
 use crate::refusals::Check;
 use crate::refusals::Made;
 use crate::refusals::Refusal;
-use crate::times::clock_of;
+use crate::times::FIRST_ADDRESS;
+use crate::times::Time;
+use crate::times::frames_of;
+use crate::times::time_at;
+use crate::units::BlockAddress;
 use crate::units::BlockCount;
 use crate::units::FrameCount;
 use crate::units::TrackNumber;
 
-// What a cue sheet reads back to: the kind of all its tracks, and their lengths.
+// What a cue sheet reads back to: the kind of all its tracks, and their lengths, of which the first count are there.
 pub struct Sheet {
     pub kind: Kind,
     pub count: u8,
-    pub tracks: [Track; 99],
+    pub lengths: [BlockCount; 99],
 }
 
 // The sheet where the check passed; where it did not, no sheet.
@@ -45,9 +49,6 @@ pub struct SheetRead {
     pub check: Check,
     pub sheet: Sheet,
 }
-
-// The lead-out stands at this address at most.
-const LAST_LEAD_OUT: u64 = 449849;
 
 // Whether an order has a cue sheet: 3, 8, 9 and 10.
 fn check_sheet(o: Order) -> Check
@@ -60,29 +61,31 @@ fn check_sheet(o: Order) -> Check
     if !is_sao(method) {
         return Check::Refused(Refusal::FieldValue);
     }
-    if o.keep {
-        return Check::Refused(Refusal::MixedOrKept);
-    }
-    if !one_kind(o) {
+    if mixed_or_kept(o) {
         return Check::Refused(Refusal::MixedOrKept);
     }
     if !all_long(o) {
         return Check::Refused(Refusal::ShortTrack);
     }
-    if LAST_LEAD_OUT < blocks_after(o, 0).0 {
+    if is_overlong(o) {
         return Check::Refused(Refusal::NoRoom);
     }
     Check::Passed
 }
 
+// A cue sheet has so many bytes at least, of one track, and at most, of 99.
+const LEAST_BYTES: usize = 8 * (1 + 3);
+
+const MOST_BYTES: usize = 8 * (99 + 3);
+
 // Whether a cue sheet can have so many bytes: 8 for each of 4 to 102 entries.
 pub(crate) fn sheet_size(n: usize) -> bool
     ensures { λ r. ⌜ r ≡ sheetSize n ⌝ }
 {
-    if n < 32 {
+    if n < LEAST_BYTES {
         return false;
     }
-    if 816 < n {
+    if MOST_BYTES < n {
         return false;
     }
     if n % 8 != 0 {
@@ -119,11 +122,11 @@ fn edge_form(k: Kind) -> u8
 }
 
 // An entry of eight bytes.
-fn entry_of(k: Kind, track: TrackNumber, index: u8, form: u8, at: FrameCount) -> [u8; 8]
-    requires { ⌜ (track .0 < 256) × (at .0 < allFrames) ⌝ }
-    ensures { λ r. ⌜ r ≡ entry k (track .0) index form at ⌝ }
+fn cue_entry(k: Kind, track: TrackNumber, index: u8, form: u8, at: BlockAddress) -> [u8; 8]
+    requires { ⌜ (track .0 < 256) × (inRange at ≡ true) ⌝ }
+    ensures { λ r. ⌜ r ≡ cueEntry k track index form at ⌝ }
 {
-    let t = clock_of(at);
+    let t = time_at(at);
     [
         control(k),
         track.0 as u8,
@@ -136,65 +139,72 @@ fn entry_of(k: Kind, track: TrackNumber, index: u8, form: u8, at: FrameCount) ->
     ]
 }
 
-fn lead_in(kind: Kind) -> [u8; 8]
-    ensures { λ r. ⌜ r ≡ leadIn kind ⌝ }
+fn lead_in_entry(kind: Kind) -> [u8; 8]
+    ensures { λ r. ⌜ r ≡ leadInEntry kind ⌝ }
 {
-    entry_of(kind, TrackNumber(0), 0, edge_form(kind), FrameCount(0))
+    let first = BlockAddress(FIRST_ADDRESS);
+    cue_entry(kind, TrackNumber(0), 0, edge_form(kind), first)
 }
 
-fn pause_of(kind: Kind) -> [u8; 8]
-    ensures { λ r. ⌜ r ≡ pauseOf kind ⌝ }
+fn pause_entry(kind: Kind) -> [u8; 8]
+    ensures { λ r. ⌜ r ≡ pauseEntry kind ⌝ }
 {
-    entry_of(kind, TrackNumber(1), 0, track_form(kind), FrameCount(0))
+    let first = BlockAddress(FIRST_ADDRESS);
+    cue_entry(kind, TrackNumber(1), 0, track_form(kind), first)
 }
 
-// Index 1 of the track after the first i, at an address.
-fn start_of(kind: Kind, i: usize, at: u64) -> [u8; 8]
-    requires { ⌜ (i < 99) × (at ≤ lastAddress) ⌝ }
-    ensures { λ r. ⌜ r ≡ startOf kind (i + 1) at ⌝ }
+// Index 1 of a track.
+fn start_entry(kind: Kind, track: TrackNumber, at: BlockAddress) -> [u8; 8]
+    requires { ⌜ (track .0 < 256) × (inRange at ≡ true) ⌝ }
+    ensures { λ r. ⌜ r ≡ startEntry kind track at ⌝ }
 {
-    let number = TrackNumber((i + 1) as u16);
-    let time = FrameCount((at + 150) as u32);
-    entry_of(kind, number, 1, track_form(kind), time)
+    cue_entry(kind, track, 1, track_form(kind), at)
 }
 
-fn lead_out(kind: Kind, at: u64) -> [u8; 8]
-    requires { ⌜ at ≤ lastAddress ⌝ }
-    ensures { λ r. ⌜ r ≡ leadOut kind at ⌝ }
+fn lead_out_entry(kind: Kind, at: BlockAddress) -> [u8; 8]
+    requires { ⌜ inRange at ≡ true ⌝ }
+    ensures { λ r. ⌜ r ≡ leadOutEntry kind at ⌝ }
 {
-    let time = FrameCount((at + 150) as u32);
-    entry_of(kind, TrackNumber(0xAA), 1, edge_form(kind), time)
+    cue_entry(kind, TrackNumber(0xAA), 1, edge_form(kind), at)
+}
+
+// The address behind a track that starts at an address.
+fn behind_track(at: BlockAddress, t: Track) -> BlockAddress
+    requires { ⌜ inRange at ≡ true ⌝ }
+    ensures { λ r. ⌜ r ≡ behind at (t .length) ⌝ }
+{
+    BlockAddress(at.0 + t.length.0 as i64)
 }
 
 // Writes index 1 of each track, then the lead-out.
 fn put_tracks(o: Order, out: &mut [u8])
-    requires { ⌜ Fits o (length (now out)) ⌝ }
-    ensures { λ _. ⌜ now (out .exit) ≡ putAt (now (out .entry)) 16 (trackEntries (orderKind o) 1 0 (tracksIn o)) ⌝ }
+    requires { ⌜ HasRoom o (length (now out)) ⌝ }
+    ensures { λ _. ⌜ now (out .exit) ≡ putAt (now (out .entry)) 16 (allEntries o) ⌝ }
 {
     let n = o.count as usize;
     let kind = order_kind(o);
     let tracks = o.tracks;
-    let mut at: u64 = 0;
+    let mut at = BlockAddress(0);
     let mut i: usize = 0;
     while i < n {
-        let one = start_of(kind, i, at);
+        let one = start_entry(kind, TrackNumber((i + 1) as u16), at);
         put(out, 16 + 8 * i, &one);
-        at = at + track_blocks(tracks[i]);
+        at = behind_track(at, tracks[i]);
         i = i + 1;
     }
-    let last = lead_out(kind, at);
+    let last = lead_out_entry(kind, at);
     put(out, 16 + 8 * i, &last);
 }
 
 // Writes the whole sheet at the start of out.
 fn put_sheet(o: Order, out: &mut [u8])
-    requires { ⌜ Fits o (length (now out)) ⌝ }
-    ensures { λ _. ⌜ now (out .exit) ≡ sheetOf o ++ drop (sheetLength o) (now (out .entry)) ⌝ }
+    requires { ⌜ HasRoom o (length (now out)) ⌝ }
+    ensures { λ _. ⌜ now (out .exit) ≡ sheetOf o ++ drop (sheetBytes (o .count)) (now (out .entry)) ⌝ }
 {
     let kind = order_kind(o);
-    let head = lead_in(kind);
+    let head = lead_in_entry(kind);
     put(out, 0, &head);
-    let pause = pause_of(kind);
+    let pause = pause_entry(kind);
     put(out, 8, &pause);
     put_tracks(o, out);
 }
@@ -204,7 +214,7 @@ fn fill_sheet(o: Order, out: &mut [u8]) -> Made
     requires { ⌜ sheetFault o ≡ 0 ⌝ }
     ensures { λ r. ⌜ Fills (pass (sheetOf o)) r (now (out .entry)) (now (out .exit)) ⌝ }
 {
-    let mut sheet = [0u8; 816];
+    let mut sheet = [0u8; MOST_BYTES];
     put_sheet(o, &mut sheet);
     let n = o.count as usize;
     let end = 8 * (n + 3);
@@ -222,14 +232,6 @@ pub fn make_sheet(o: Order, out: &mut [u8]) -> Made
     }
 }
 
-// The time of the entry at the index at, in frames.
-fn frames_in(b: &[u8], at: usize) -> u32
-    requires { ⌜ at + 8 ≤ length (now b) ⌝ }
-    ensures { λ r. ⌜ r ≡ framesIn (drop at (now (b .entry))) ⌝ }
-{
-    (byte_at(b, at + 5) * 60 + byte_at(b, at + 6)) * 75 + byte_at(b, at + 7)
-}
-
 fn kind_in(control: u8) -> Kind
     ensures { λ r. ⌜ r ≡ kindIn control ⌝ }
 {
@@ -240,69 +242,115 @@ fn kind_in(control: u8) -> Kind
     }
 }
 
-// How far a lies beyond b.
-fn beyond(a: u32, b: u32) -> u32
-    ensures { λ r. ⌜ r ≡ a - b ⌝ }
+// The time of the entry at the index at.
+fn frames_in(b: &[u8], at: usize) -> FrameCount
+    requires { ⌜ at + 8 ≤ length (now b) ⌝ }
+    ensures { λ r. ⌜ r ≡ framesIn (drop at (now (b .entry))) ⌝ }
 {
-    if b < a { a - b } else { 0 }
+    frames_of(Time {
+        minute: b[at + 5],
+        second: b[at + 6],
+        frame: b[at + 7],
+    })
 }
 
-// The track whose entry stands at the index at; it ends where the next entry starts.
-fn track_in(kind: Kind, b: &[u8], at: usize) -> Track
-    requires { ⌜ at + 16 ≤ length (now b) ⌝ }
-    ensures { λ r. ⌜ r ≡ trackIn kind (drop at (now (b .entry))) ⌝ }
+// How far a lies behind b.
+fn past(a: FrameCount, b: FrameCount) -> BlockCount
+    ensures { λ r. ⌜ r ≡ record { 0 = a .0 - b .0 } ⌝ }
 {
-    let starts = frames_in(b, at);
-    let ends = frames_in(b, at + 8);
-    Track {
-        kind: kind,
-        length: BlockCount(beyond(ends, starts)),
+    if b.0 < a.0 {
+        BlockCount(a.0 - b.0)
+    } else {
+        BlockCount(0)
     }
 }
 
-fn tracks_in(kind: Kind, n: usize, b: &[u8]) -> [Track; 99]
-    requires { ⌜ (n ≤ 99) × (24 + 8 * n ≤ length (now b)) ⌝ }
-    ensures { λ r. ⌜ r ≡ lengthsIn kind n (drop 16 (now (b .entry))) ++ replicate (99 - n) noTrack ⌝ }
+// The length of the track whose entry stands at the index at; it ends where the next entry starts.
+fn length_in(b: &[u8], at: usize) -> BlockCount
+    requires { ⌜ at + 16 ≤ length (now b) ⌝ }
+    ensures { λ r. ⌜ r ≡ lengthIn (drop at (now (b .entry))) ⌝ }
+{
+    let starts = frames_in(b, at);
+    let ends = frames_in(b, at + 8);
+    past(ends, starts)
+}
+
+fn lengths_in(n: usize, b: &[u8]) -> [BlockCount; 99]
+    requires { ⌜ (n ≤ mostTracks) × (sheetBytes n ≤ length (now b)) ⌝ }
+    ensures { λ r. ⌜ r ≡ lengthsIn n (drop 16 (now (b .entry))) ++ replicate (mostTracks - n) noLength ⌝ }
+{
+    let none = BlockCount(0);
+    let mut lengths = [none; 99];
+    let mut i: usize = 0;
+    while i < n {
+        lengths[i] = length_in(b, 16 + 8 * i);
+        i = i + 1;
+    }
+    lengths
+}
+
+// The kind and the lengths that the bytes give, whatever else they hold.
+fn sheet_in(b: &[u8]) -> Sheet
+    requires { ⌜ sheetSize (length (now b)) ≡ true ⌝ }
+    ensures { λ r. ⌜ r ≡ sheetIn (now (b .entry)) ⌝ }
+{
+    let n = b.len() / 8 - 3;
+    let kind = kind_in(b[0]);
+    let lengths = lengths_in(n, b);
+    Sheet {
+        kind: kind,
+        count: n as u8,
+        lengths: lengths,
+    }
+}
+
+// The tracks of a kind with the first n of these lengths.
+fn tracks_for(kind: Kind, n: usize, lengths: [BlockCount; 99]) -> [Track; 99]
+    requires { ⌜ n ≤ mostTracks ⌝ }
+    ensures { λ r. ⌜ r ≡ map (trackFor kind) (take n lengths) ++ replicate (mostTracks - n) noTrack ⌝ }
 {
     let none = no_track();
     let mut tracks = [none; 99];
     let mut i: usize = 0;
     while i < n {
-        tracks[i] = track_in(kind, b, 16 + 8 * i);
+        tracks[i] = Track {
+            kind: kind,
+            length: lengths[i],
+        };
         i = i + 1;
     }
     tracks
 }
 
-// The order whose sheet has these times.
-fn order_in(b: &[u8]) -> Order
-    requires { ⌜ (32 ≤ length (now b)) × (length (now b) ≤ 816) ⌝ }
-    ensures { λ r. ⌜ r ≡ orderIn (now (b .entry)) ⌝ }
+// The order that a sheet is for.
+fn order_for(s: Sheet) -> Order
+    requires { ⌜ s .count ≤ mostTracks ⌝ }
+    ensures { λ r. ⌜ r ≡ orderFor s ⌝ }
 {
-    let n = b.len() / 8 - 3;
-    let kind = kind_in(b[0]);
-    let tracks = tracks_in(kind, n, b);
+    let kind = s.kind;
+    let lengths = s.lengths;
+    let tracks = tracks_for(kind, s.count as usize, lengths);
     Order {
         method: Method::Sao,
         keep: false,
         protect: false,
         immed: false,
         erase: false,
-        count: n as u8,
+        count: s.count,
         tracks: tracks,
     }
 }
 
-// Whether the bytes are the sheet of the order that their times give.
+// Whether the bytes are the sheet of the order that their kind and lengths give.
 fn is_sheet(o: Order, b: &[u8]) -> bool
-    requires { ⌜ (sheetSize (length (now b)) ≡ true) × (o ≡ orderIn (now b)) ⌝ }
+    requires { ⌜ (sheetSize (length (now b)) ≡ true) × (o ≡ orderFor (sheetIn (now b))) ⌝ }
     ensures { λ r. ⌜ r ≡ isSheet (now (b .entry)) ⌝ }
 {
     let check = check_sheet(o);
     match check {
         Check::Refused(_) => false,
         Check::Passed => {
-            let mut sheet = [0u8; 816];
+            let mut sheet = [0u8; MOST_BYTES];
             put_sheet(o, &mut sheet);
             let n = b.len();
             same(&sheet[0..n], b)
@@ -313,14 +361,13 @@ fn is_sheet(o: Order, b: &[u8]) -> bool
 fn no_sheet() -> SheetRead
     ensures { λ r. ⌜ (r .check ≡ Check.Refused Refusal.NoCueSheet) × (r .sheet ≡ noSheet) ⌝ }
 {
-    let none = no_track();
-    let tracks = [none; 99];
+    let none = BlockCount(0);
     SheetRead {
         check: Check::Refused(Refusal::NoCueSheet),
         sheet: Sheet {
             kind: Kind::Audio,
             count: 0,
-            tracks: tracks,
+            lengths: [none; 99],
         },
     }
 }
@@ -332,18 +379,12 @@ pub fn read_sheet(b: &[u8]) -> SheetRead
     if !sheet_size(b.len()) {
         return no_sheet();
     }
-    let o = order_in(b);
-    if !is_sheet(o, b) {
+    let sheet = sheet_in(b);
+    if !is_sheet(order_for(sheet), b) {
         return no_sheet();
     }
-    let kind = order_kind(o);
-    let tracks = o.tracks;
     SheetRead {
         check: Check::Passed,
-        sheet: Sheet {
-            kind: kind,
-            count: o.count,
-            tracks: tracks,
-        },
+        sheet: sheet,
     }
 }

@@ -2,7 +2,7 @@
 ghost use mathlib.Core.Path.{_≡_};
 ghost use mathlib.Core.Bool.{true};
 ghost use Prim.Native.Nat.{_<_};
-ghost use Rattle.mmc.specs.Times.{inRange, framesTo, addressAt, isTime, clock, framesOf, allFrames, GivesTime, GivesAddress};
+ghost use Rattle.mmc.specs.Times.{inRange, framesTo, addressAt, isTime, clock, timeAt, framesOf, allFrames, GivesTime, GivesAddress};
 use crate::refusals::Refusal;
 use crate::units::BlockAddress;
 use crate::units::FrameCount;
@@ -23,10 +23,14 @@ pub enum AddressAnswer {
     Refused(Refusal),
 }
 
-// The addresses that have a time.
-const FIRST_ADDRESS: i64 = -150;
+// The frames before address 0, which are the blocks of a pause.
+pub const LEAD_FRAMES: i64 = 150;
 
-const LAST_ADDRESS: i64 = 449849;
+// The first address that has a time, where the pause of a session at once starts.
+pub const FIRST_ADDRESS: i64 = -LEAD_FRAMES;
+
+// The last address that has a time, also the last for a lead-out.
+pub const LAST_ADDRESS: i64 = 449849;
 
 // Whether an address has a time.
 pub(crate) fn in_range(a: BlockAddress) -> bool
@@ -41,18 +45,18 @@ fn frames_to(a: BlockAddress) -> FrameCount
     requires { ⌜ inRange a ≡ true ⌝ }
     ensures { λ r. ⌜ r ≡ framesTo a ⌝ }
 {
-    FrameCount((a.0 + 150) as u32)
+    FrameCount((a.0 + LEAD_FRAMES) as u32)
 }
 
 // The address at a count of frames.
-pub fn address_at(f: FrameCount) -> BlockAddress
+fn address_at(f: FrameCount) -> BlockAddress
     ensures { λ r. ⌜ r ≡ addressAt f ⌝ }
 {
-    BlockAddress(f.0 as i64 - 150)
+    BlockAddress(f.0 as i64 - LEAD_FRAMES)
 }
 
 // A count of frames as a time.
-pub(crate) fn clock_of(f: FrameCount) -> Time
+fn clock_of(f: FrameCount) -> Time
     requires { ⌜ f .0 < allFrames ⌝ }
     ensures { λ r. ⌜ r ≡ clock f ⌝ }
 {
@@ -62,6 +66,14 @@ pub(crate) fn clock_of(f: FrameCount) -> Time
         second: (s % 60) as u8,
         frame: (f.0 % 75) as u8,
     }
+}
+
+// The time of an address that has one.
+pub(crate) fn time_at(a: BlockAddress) -> Time
+    requires { ⌜ inRange a ≡ true ⌝ }
+    ensures { λ r. ⌜ r ≡ timeAt a ⌝ }
+{
+    clock_of(frames_to(a))
 }
 
 // Whether minute, second and frame are a time.
@@ -83,7 +95,7 @@ pub fn time_of(a: BlockAddress) -> TimeAnswer
     ensures { λ r. ⌜ GivesTime a r ⌝ }
 {
     if in_range(a) {
-        TimeAnswer::At(clock_of(frames_to(a)))
+        TimeAnswer::At(time_at(a))
     } else {
         TimeAnswer::Refused(Refusal::OutOfRange)
     }

@@ -1,20 +1,23 @@
 -- Sheets read back to what was made, and a reader takes no others.
 use mathlib.Core.Path.{_≡_, refl, sym, ap, subst, _∙_}
-use mathlib.Core.List.{List, [], _∷_, _++_}
+use mathlib.Core.List.{List, [], _∷_, _++_, map, map-append}
 use mathlib.Core.Bool.{Bool, true, false, _&&_}
-use Prim.Native.Nat.{ℕ, suc, _+_, _*_, _-_, _/_, _%_, _≤_, _<_}
+use Prim.Native.Nat.{ℕ, zero, suc, _+_, _*_, _-_, _/_, _%_, _≤_, _<_}
 use native.Mathlib.Omega.{arith}
 use borrow.Author.Tests.{eq-eqb, eqb-true, leb-true, le-leb}
 use lib.Dec.{eqb, leb}
-use lib.ListN.{length, getD, drop, replicate, take-append-drop, length-drop}
-use lib.Seq.{length-take-le}
-use Rattle.basics.specs.Bytes.{if, sameBytes}
-use Rattle.mmc.specs.Order.{noTrack, isNone, isAudio, allNone, validOrder, sameKind, tracksIn, orderKind, allKind, allLong, leastBlocks}
-use Rattle.mmc.specs.Sheet.{sheetFault, controlOf, entry, leadIn, pauseOf, startOf, leadOut, trackEntries, sheetOf, sheetLength, framesIn, kindIn, trackIn, lengthsIn, countIn, orderIn, sheetSize, isSheet, readSheet, cueSheet, sheetFor, orderFor, timesIn, Below, Rising, Ordered}
-use Rattle.mmc.proofs.sheet.Entries.{entries-length, Sheeted, sheeted}
-use Rattle.basics.proofs.Tests.{both, known}
+use lib.ListN.{length, getD, take, drop, replicate, take-append-drop, length-drop, length-map}
+use lib.Seq.{length-take-le, take-at}
+use Rattle.basics.specs.Bytes.{sameBytes}
+use Rattle.basics.proofs.Tests.{false-true, both, known}
 use Rattle.basics.proofs.Bytes.{same-is, same-refl}
+use Rattle.mmc.specs.Order.{mostTracks, noTrack, isNone, isAudio, allNone, validOrder, sameKind, tracksIn, orderKind, mixedOrKept, overlong, allKind, allLong, leastBlocks}
+use Rattle.mmc.specs.Times.{framesTo}
+use Rattle.mmc.specs.Sheet.{sheetFault, controlOf, cueEntry, leadInEntry, pauseEntry, startEntry, leadOutEntry, nextTrack, behind, trackEntries, allEntries, sheetOf, sheetBytes, framesIn, kindIn, lengthIn, lengthsIn, noLength, tracksBeside, sheetIn, sheetSize, trackFor, orderFor, isSheet, readSheet, cueSheet, lengthOf, sheetFor, timesIn, Below, Rising, Ordered}
+use Rattle.mmc.proofs.refusals.Laws.{without-fault}
+use Rattle.mmc.proofs.sheet.Entries.{address, number, entries-length, Sheeted, sheeted}
 use Rattle.mmc.specs.Refusals.{pass, refuse}
+use Rattle.mmc.specs.declared.units.BlockCount.{BlockCount}
 use Rattle.mmc.specs.declared.order.Order.{Order}
 use Rattle.mmc.specs.declared.order.Track.{Track}
 use Rattle.mmc.specs.declared.order.Kind.{Kind}
@@ -27,57 +30,38 @@ use Rattle.mmc.specs.declared.sheet.Sheet.{Sheet}
 clock-back : (f : ℕ) → (f / 75 / 60 * 60 + f / 75 % 60) * 75 + f % 75 ≡ f
 clock-back f = omega arith
 
-starts : (k : Kind) (n at : ℕ) (ts : List Track) → framesIn (trackEntries k n at ts) ≡ at + 150
-unfolding framesIn trackEntries entry leadIn pauseOf startOf leadOut
+-- the first entry's time, where the first track starts at an address
+starts : (k : Kind) (n at : ℕ) (ts : List Track) → framesIn (trackEntries k (number n) (address at) ts) .0 ≡ at + 150
+unfolding framesIn trackEntries cueEntry startEntry leadOutEntry framesTo
 starts k n at [] = clock-back (at + 150)
 starts k n at (t ∷ ts) = clock-back (at + 150)
 
-kind-same : (a b : Kind) → sameKind a b ≡ true → a ≡ b
-kind-same Audio Audio e = refl
-kind-same Audio Data e = absurd (no e)
-  where
-    no : false ≡ true → ⊥
-    no e = let w : _≡_ {A = ℕ} 0 1 = cc in omega arith
-kind-same Data Audio e = absurd (no e)
-  where
-    no : false ≡ true → ⊥
-    no e = let w : _≡_ {A = ℕ} 0 1 = cc in omega arith
-kind-same Data Data e = refl
-
-rest : (k : Kind) (n at : ℕ) (t : Track) (ts : List Track) → drop 8 (trackEntries k n at (t ∷ ts)) ≡ trackEntries k (n + 1) (at + t .length .0) ts
-unfolding trackEntries entry leadIn pauseOf startOf leadOut
+rest : (k : Kind) (n at : ℕ) (t : Track) (ts : List Track) → drop 8 (trackEntries k (number n) (address at) (t ∷ ts)) ≡ trackEntries k (number (n + 1)) (address (at + t .length .0)) ts
+unfolding trackEntries cueEntry startEntry
 rest k n at t ts = refl
 
-next : (k : Kind) (n at : ℕ) (t : Track) (ts : List Track) → framesIn (drop 8 (trackEntries k n at (t ∷ ts))) ≡ at + t .length .0 + 150
-unfolding trackEntries entry leadIn pauseOf startOf leadOut
-next k n at t ts = starts k (n + 1) (at + t .length .0) ts
+one-back : (k : Kind) (n at : ℕ) (t : Track) (ts : List Track) → lengthIn (trackEntries k (number n) (address at) (t ∷ ts)) ≡ lengthOf t
+unfolding lengthIn
+one-back k n at t ts =
+    let l : ℕ = t .length .0 in
+    let a : framesIn (trackEntries k (number n) (address at) (t ∷ ts)) .0 ≡ at + 150 = starts k n at (t ∷ ts) in
+    let b : framesIn (drop 8 (trackEntries k (number n) (address at) (t ∷ ts))) .0 ≡ at + l + 150 = rw (rest k n at t ts) (starts k (n + 1) (at + l) ts) in
+    let d : at + l + 150 - (at + 150) ≡ l = omega arith in
+    ap (λ (m : ℕ). record { 0 = m }) (rw (a, b) d)
 
-one-back : (k : Kind) (n at : ℕ) (t : Track) (ts : List Track) → sameKind k (t .kind) ≡ true → trackIn k (trackEntries k n at (t ∷ ts)) ≡ t
-unfolding trackIn
-one-back k n at t ts e =
-    let a : framesIn (trackEntries k n at (t ∷ ts)) ≡ at + 150 = starts k n at (t ∷ ts) in
-    let b : framesIn (drop 8 (trackEntries k n at (t ∷ ts))) ≡ at + t .length .0 + 150 = next k n at t ts in
-    let d : at + t .length .0 + 150 - (at + 150) ≡ t .length .0 = omega arith in
-    rw (a, b, d, kind-same k (t .kind) e)
-
-lengths-back : (k : Kind) (n at : ℕ) (ts : List Track) → allKind k ts ≡ true → lengthsIn k (length ts) (trackEntries k n at ts) ≡ ts
-unfolding lengthsIn allKind
-lengths-back k n at [] e = refl
-lengths-back k n at (t ∷ ts) e =
-    let w = both (sameKind k (t .kind)) (allKind k ts) e in
-    rw (one-back k n at t ts (w .0), rest k n at t ts, lengths-back k (n + 1) (at + t .length .0) ts (w .1))
+lengths-back : (k : Kind) (n at : ℕ) (ts : List Track) → lengthsIn (length ts) (trackEntries k (number n) (address at) ts) ≡ map lengthOf ts
+unfolding lengthsIn
+lengths-back k n at [] = refl
+lengths-back k n at (t ∷ ts) = rw (one-back k n at t ts, rest k n at t ts, lengths-back k (n + 1) (at + t .length .0) ts)
 
 none-is : (t : Track) → isNone t ≡ true → t ≡ noTrack
 none-is t e =
     let w = both (isAudio (t .kind)) (eqb (t .length .0) 0) e in
     rw (audio (t .kind) (w .0), eqb-true (t .length .0) 0 (w .1))
   where
-    no : false ≡ true → ⊥
-    no e = let w : _≡_ {A = ℕ} 0 1 = cc in omega arith
-
     audio : (k : Kind) → isAudio k ≡ true → k ≡ Audio
     audio Audio e = refl
-    audio Data e = absurd (no e)
+    audio Data e = absurd (false-true e)
 
 nones-are : (ts : List Track) → allNone ts ≡ true → ts ≡ replicate (length ts) noTrack
 unfolding allNone
@@ -85,6 +69,24 @@ nones-are [] e = refl
 nones-are (t ∷ ts) e =
     let w = both (isNone t) (allNone ts) e in
     rw (none-is t (w .0), ← nones-are ts (w .1))
+
+no-lengths : (n : ℕ) → map lengthOf (replicate n noTrack) ≡ replicate n noLength
+no-lengths zero = refl
+no-lengths (suc n) = ap (λ (l : List BlockCount). noLength ∷ l) (no-lengths n)
+
+kind-same : (a b : Kind) → sameKind a b ≡ true → a ≡ b
+kind-same Audio Audio e = refl
+kind-same Audio Data e = absurd (false-true e)
+kind-same Data Audio e = absurd (false-true e)
+kind-same Data Data e = refl
+
+-- tracks of one kind are those of their lengths
+tracks-of : (k : Kind) (ts : List Track) → allKind k ts ≡ true → map (trackFor k) (map lengthOf ts) ≡ ts
+unfolding allKind
+tracks-of k [] e = refl
+tracks-of k (t ∷ ts) e =
+    let w = both (sameKind k (t .kind)) (allKind k ts) e in
+    rw (tracks-of k ts (w .1), kind-same k (t .kind) (w .0))
 
 kind-back : (k : Kind) → kindIn (controlOf k) ≡ k
 kind-back Audio = refl
@@ -108,11 +110,11 @@ module _ (o : Order) (z : length (o .tracks) ≡ 99) (f : sheetFault o ≡ 0) wh
   tracks-are : length (tracksIn o) ≡ o .count
   tracks-are = length-take-le (o .count) (o .tracks) (omega (arith, few))
 
-  pub sheet-length : length (sheetOf o) ≡ sheetLength o
-  unfolding sheetOf entry leadIn pauseOf startOf leadOut
-  sheet-length = omega (arith, entries-length (orderKind o) 1 0 (tracksIn o), tracks-are)
+  pub sheet-length : length (sheetOf o) ≡ sheetBytes (o .count)
+  unfolding sheetOf cueEntry leadInEntry pauseEntry
+  sheet-length = omega (arith, entries-length (orderKind o) (number 1) (address 0) (tracksIn o), tracks-are)
 
-  count-back : countIn (sheetOf o) ≡ o .count
+  count-back : tracksBeside (sheetOf o) ≡ o .count
   count-back = omega (arith, sheet-length)
 
   shaped-back : sheetSize (length (sheetOf o)) ≡ true
@@ -123,46 +125,60 @@ module _ (o : Order) (z : length (o .tracks) ≡ 99) (f : sheetFault o ≡ 0) wh
       simp (le-leb 32 (length (sheetOf o)) (omega arith), le-leb (length (sheetOf o)) 816 (omega arith), eq-eqb (length (sheetOf o) % 8) 0 (omega arith))
 
   first : getD (sheetOf o) 0 0 ≡ controlOf (orderKind o)
-  unfolding sheetOf entry leadIn pauseOf startOf leadOut
+  unfolding sheetOf cueEntry leadInEntry
   first = refl
 
-  behind : drop 16 (sheetOf o) ≡ trackEntries (orderKind o) 1 0 (tracksIn o)
-  unfolding sheetOf entry leadIn pauseOf startOf leadOut
-  behind = refl
+  behind-pause : drop 16 (sheetOf o) ≡ allEntries o
+  unfolding sheetOf cueEntry leadInEntry pauseEntry
+  behind-pause = refl
 
-  tracks-back : lengthsIn (kindIn (getD (sheetOf o) 0 0)) (countIn (sheetOf o)) (drop 16 (sheetOf o)) ++ replicate (99 - countIn (sheetOf o)) noTrack ≡ o .tracks
-  tracks-back =
-      let c : getD (sheetOf o) 0 0 ≡ controlOf (orderKind o) = first in
-      let r : drop 16 (sheetOf o) ≡ trackEntries (orderKind o) 1 0 (tracksIn o) = behind in
-      let l : lengthsIn (orderKind o) (o .count) (trackEntries (orderKind o) 1 0 (tracksIn o)) ≡ tracksIn o =
-      ap (λ (n : ℕ). lengthsIn (orderKind o) n (trackEntries (orderKind o) 1 0 (tracksIn o))) (sym tracks-are) ∙ lengths-back (orderKind o) 1 0 (tracksIn o) (s .kinds) in
+  -- no track stands behind the last
+  nones : drop (o .count) (o .tracks) ≡ replicate (99 - o .count) noTrack
+  nones =
       let n : length (drop (o .count) (o .tracks)) ≡ 99 - o .count = length-drop (o .count) (o .tracks) ∙ ap (λ (j : ℕ). j - o .count) z in
-      let e : replicate (99 - o .count) noTrack ≡ drop (o .count) (o .tracks) = sym (nones-are (drop (o .count) (o .tracks)) (few .2) ∙ ap (λ (j : ℕ). replicate j noTrack) n) in
-      rw (count-back, c, kind-back (orderKind o), r, l, e) (take-append-drop (o .count) (o .tracks))
+      nones-are (drop (o .count) (o .tracks)) (few .2) ∙ ap (λ (j : ℕ). replicate j noTrack) n
 
-  order-back : orderIn (sheetOf o) ≡ plain o
-  unfolding orderIn
-  order-back = rw (tracks-back, count-back)
+  -- the lengths of all 99 places
+  all-lengths : map lengthOf (o .tracks) ≡ map lengthOf (tracksIn o) ++ replicate (99 - o .count) noLength
+  all-lengths =
+      ap (map lengthOf) (sym (take-append-drop (o .count) (o .tracks)))
+      ∙ map-append lengthOf (tracksIn o) (drop (o .count) (o .tracks))
+      ∙ ap (λ (l : List BlockCount). map lengthOf (tracksIn o) ++ l) (ap (map lengthOf) nones ∙ no-lengths (99 - o .count))
+
+  lengths-are : lengthsIn (tracksBeside (sheetOf o)) (drop 16 (sheetOf o)) ≡ map lengthOf (tracksIn o)
+  lengths-are =
+      let r : drop 16 (sheetOf o) ≡ allEntries o = behind-pause in
+      rw (count-back, r) (ap (λ (n : ℕ). lengthsIn n (allEntries o)) (sym tracks-are) ∙ lengths-back (orderKind o) 1 0 (tracksIn o))
+
+  kind-and-lengths : sheetIn (sheetOf o) ≡ sheetFor o
+  unfolding sheetIn sheetFor
+  kind-and-lengths =
+      let c : getD (sheetOf o) 0 0 ≡ controlOf (orderKind o) = first in
+      rw (lengths-are, count-back, c, kind-back (orderKind o), all-lengths)
+
+  order-back : orderFor (sheetFor o) ≡ plain o
+  unfolding orderFor sheetFor
+  order-back =
+      let n : length (map lengthOf (tracksIn o)) ≡ o .count = length-map (tracksIn o) lengthOf ∙ tracks-are in
+      let t : take (o .count) (map lengthOf (o .tracks)) ≡ map lengthOf (tracksIn o) = ap (take (o .count)) all-lengths ∙ take-at (map lengthOf (tracksIn o)) _ (o .count) n in
+      let e : map (trackFor (orderKind o)) (take (o .count) (map lengthOf (o .tracks))) ++ replicate (99 - o .count) noTrack ≡ o .tracks =
+      rw (t, tracks-of (orderKind o) (tracksIn o) (s .kinds), ← nones) (take-append-drop (o .count) (o .tracks)) in
+      ap (λ (l : List Track). record { method = Sao; keep = false; protect = false; immed = false; erase = false; count = o .count; tracks = l }) e
 
   plain-fault : sheetFault (plain o) ≡ 0
-  unfolding validOrder sheetFault
+  unfolding validOrder sheetFault mixedOrKept overlong
   plain-fault = simp (s .sao, s .closed) at f
 
   plain-sheet : sheetOf (plain o) ≡ sheetOf o
   unfolding sheetOf
   plain-sheet = refl
 
-  -- what is made of an order is read back to its kind and its tracks
+  -- what is made of an order is read back to its kind and its lengths
   pub sheet-back : readSheet (sheetOf o) ≡ pass (sheetFor o)
   unfolding readSheet isSheet
-  sheet-back = simp (shaped-back, order-back, plain-fault, plain-sheet, same-refl (sheetOf o))
+  sheet-back = simp (shaped-back, kind-and-lengths, order-back, plain-fault, plain-sheet, same-refl (sheetOf o))
 
 -- ---- a reader takes no others
-
--- the order that the times give is the one of the sheet read
-same-order : (b : List ℕ) (s : Sheet) → sheetFor (orderIn b) ≡ s → orderFor s ≡ orderIn b
-unfolding orderIn
-same-order b s e = ap orderFor (sym e)
 
 -- every sheet that is read is the one that is made of what is read
 pub made : (b : List ℕ) (s : Sheet) → readSheet b ≡ pass s → cueSheet (orderFor s) ≡ pass b
@@ -171,11 +187,12 @@ made b s e = known (isSheet b) yes' no'
   where
     yes' : isSheet b ≡ true → cueSheet (orderFor s) ≡ pass b
     yes' t =
-        let w = both (sheetSize (length b)) (eqb (sheetFault (orderIn b)) 0 && sameBytes (sheetOf (orderIn b)) b) t in
-        let v = both (eqb (sheetFault (orderIn b)) 0) (sameBytes (sheetOf (orderIn b)) b) (w .1) in
-        let x : pass (sheetFor (orderIn b)) ≡ pass s = simp t at e in
-        let y : sheetFor (orderIn b) ≡ s = cc in
-        rw (same-order b s y, v .0, same-is (sheetOf (orderIn b)) b (v .1))
+        let o : Order = orderFor (sheetIn b) in
+        let w = both (sheetSize (length b)) (eqb (sheetFault o) 0 && sameBytes (sheetOf o) b) t in
+        let v = both (eqb (sheetFault o) 0) (sameBytes (sheetOf o) b) (w .1) in
+        let x : pass (sheetIn b) ≡ pass s = simp t at e in
+        let y : s ≡ sheetIn b = cc in
+        rw (y, v .0, same-is (sheetOf o) b (v .1))
 
     no' : isSheet b ≡ false → cueSheet (orderFor s) ≡ pass b
     no' t = let x : refuse 14 ≡ pass s = simp t at e in absurd (let y : _≡_ {A = ℕ} 0 1 = cc in omega arith)
@@ -183,15 +200,15 @@ made b s e = known (isSheet b) yes' no'
 -- an order that has a sheet has no fault, and that is its sheet
 made-of : (o : Order) (b : List ℕ) → cueSheet o ≡ pass b → (sheetFault o ≡ 0) × (sheetOf o ≡ b)
 unfolding cueSheet
-made-of o b e = by (sheetFault o) (eqb (sheetFault o) 0) refl e
-  where
-    by : (f : ℕ) (t : Bool) → eqb f 0 ≡ t → if t (pass (sheetOf o)) (refuse f) ≡ pass b → (f ≡ 0) × (sheetOf o ≡ b)
-    by f true z h = (eqb-true f 0 z, cc)
-    by f false z h = absurd (let y : _≡_ {A = ℕ} 0 1 = cc in omega arith)
+made-of o b e = without-fault (sheetFault o) (sheetOf o) b e
 
--- every sheet that is made reads back
-pub reads-back : (o : Order) → length (o .tracks) ≡ 99 → (b : List ℕ) → cueSheet o ≡ pass b → readSheet b ≡ pass (sheetFor o)
-reads-back o z b e = let w = made-of o b e in rw (← w .1) (sheet-back o z (w .0))
+-- every sheet that is made has its length, and reads back
+module _ (o : Order) (z : length (o .tracks) ≡ 99) (b : List ℕ) (e : cueSheet o ≡ pass b) where
+  pub made-length : length b ≡ sheetBytes (o .count)
+  made-length = let w = made-of o b e in rw (← w .1) (sheet-length o z (w .0))
+
+  pub reads-back : readSheet b ≡ pass (sheetFor o)
+  reads-back = let w = made-of o b e in rw (← w .1) (sheet-back o z (w .0))
 
 -- ---- the times of the entries
 
@@ -199,7 +216,7 @@ timesFrom : ℕ → List Track → List ℕ
 timesFrom at [] = (at + 150) ∷ []
 timesFrom at (t ∷ ts) = (at + 150) ∷ timesFrom (at + t .length .0) ts
 
-times-are : (k : Kind) (n at : ℕ) (ts : List Track) → timesIn (length ts + 1) (trackEntries k n at ts) ≡ timesFrom at ts
+times-are : (k : Kind) (n at : ℕ) (ts : List Track) → timesIn (length ts + 1) (trackEntries k (number n) (address at) ts) ≡ timesFrom at ts
 unfolding timesIn timesFrom
 times-are k n at [] = ap (λ (x : ℕ). x ∷ []) (starts k n at [])
 times-are k n at (t ∷ ts) =
@@ -220,7 +237,7 @@ rising-from at (t ∷ ts) l =
     (below-from (at + 150) a ts (omega (arith, leb-true leastBlocks (t .length .0) (w .0))), rising-from a ts (w .1))
 
 shares : (o : Order) → framesIn (sheetOf o) ≡ framesIn (drop 8 (sheetOf o))
-unfolding sheetOf framesIn entry leadIn pauseOf
+unfolding sheetOf framesIn cueEntry leadInEntry pauseEntry
 shares o = refl
 
 -- index 1 and lead-out addresses strictly increase; lead-in and pause share one
@@ -229,9 +246,9 @@ in-order o z b e =
     let w = made-of o b e in
     let s : Sheeted o = sheeted o (w .0) in
     let n : length (tracksIn o) ≡ o .count = tracks-are o z (w .0) in
-    let r : Rising (timesIn (length (tracksIn o) + 1) (trackEntries (orderKind o) 1 0 (tracksIn o))) =
+    let r : Rising (timesIn (length (tracksIn o) + 1) (allEntries o)) =
     rw (times-are (orderKind o) 1 0 (tracksIn o)) (rising-from 0 (tracksIn o) (s .long)) in
     let at : Rising (timesIn (o .count + 1) (drop 16 (sheetOf o))) =
-    subst (λ (x : List ℕ). Rising (timesIn (o .count + 1) x)) (sym (behind o z (w .0)))
-    (subst (λ (m : ℕ). Rising (timesIn (m + 1) (trackEntries (orderKind o) 1 0 (tracksIn o)))) n r) in
+    subst (λ (x : List ℕ). Rising (timesIn (o .count + 1) x)) (sym (behind-pause o z (w .0)))
+    (subst (λ (m : ℕ). Rising (timesIn (m + 1) (allEntries o))) n r) in
     subst (Ordered (o .count)) (w .1) (record { shared = shares o; rising = at })

@@ -1,62 +1,92 @@
--- One more byte and one more track, in the loops that read a sheet.
+-- The arrays that are filled from the front, in the loops that read a sheet.
 use mathlib.Core.Path.{_≡_, refl, sym, ap, _∙_}
-use mathlib.Core.List.{List, _++_, append-nil}
+use mathlib.Core.List.{List, [], _∷_, _++_, map}
 use mathlib.Core.Bool.{true, _&&_}
-use Prim.Native.Nat.{ℕ, suc, _+_, _*_, _-_, _%_, _≤_, _<_}
+use Prim.Native.Nat.{ℕ, zero, suc, _+_, _*_, _-_, _%_, _≤_, _<_}
 use native.Mathlib.Numerals.{add-one}
 use native.Mathlib.Omega.{arith}
-use lib.ListN.{length, take, drop, set, length-set, replicate, take-append-drop}
-use lib.Seq.{drop-drop, take-suc-set, append-snoc, drop-set-lt}
-use borrow.Author.Tests.{eqb-true, leb-true}
 use lib.Dec.{eqb, leb}
-use Rattle.mmc.specs.Order.{noTrack}
-use Rattle.mmc.specs.Sheet.{sheetLength, sheetFault, orderIn, Fits, trackIn, lengthsIn, sheetSize}
+use lib.ListN.{length, getD, take, drop, set, length-set, length-map, replicate, take-append-drop, List·getD-map}
+use lib.Seq.{drop-drop, take-all, take-suc, take-suc-set, drop-set-lt, length-take-le, getD-take}
+use borrow.Author.Tests.{eqb-true, leb-true}
 use Rattle.basics.proofs.Tests.{both}
-use Rattle.mmc.proofs.sheet.Entries.{fits}
-use Rattle.mmc.specs.declared.order.Order.{Order}
-use Rattle.mmc.specs.declared.order.Track.{Track}
-use Rattle.mmc.specs.declared.order.Kind.{Kind}
+use Rattle.mmc.specs.Order.{mostTracks}
+use Rattle.mmc.specs.Sheet.{sheetBytes, lengthIn, lengthsIn, noLength, sheetIn, sheetSize}
+use Rattle.mmc.specs.declared.units.BlockCount.{BlockCount}
 
--- ---- the array of tracks: the first i are read, the rest are none
+-- ---- an array of 99: its first i places hold the first i of a list of n, the rest what stands for none
 
-more : (k : Kind) (p m i : ℕ) (b : List ℕ) (a : List Track) → i < length a
-    → take (suc i) (set a i (trackIn k (drop p b))) ++ lengthsIn k m (drop (p + 8) b) ≡ take i a ++ lengthsIn k (suc m) (drop p b)
-unfolding lengthsIn
-more k p m i b a h = rw (take-suc-set a i (trackIn k (drop p b)) h, append-snoc, drop-drop 8 p b)
-
-pub record Reading (k : Kind) (n : ℕ) (b : List ℕ) (a : List Track) (i : ℕ) : Type 0 where
+pub record Filling {X : Type 0} (none : X) (n : ℕ) (whole a : List X) (i : ℕ) : Type 0 where
   pub within : i ≤ n
   pub few : n ≤ 99
+  pub size : length whole ≡ n
   pub long : length a ≡ 99
-  pub front : take i a ++ lengthsIn k (n - i) (drop (16 + 8 * i) b) ≡ lengthsIn k n (drop 16 b)
-  pub behind : drop i a ≡ replicate (99 - i) noTrack
+  pub front : take i a ≡ take i whole
+  pub behind : drop i a ≡ replicate (99 - i) none
 
-pub reading-start : (k : Kind) (n : ℕ) (b : List ℕ) → n ≤ 99 → Reading k n b (replicate 99 noTrack) 0
-reading-start k n b h = record { within = omega arith; few = h; long = refl; front = let e : n - 0 ≡ n = omega arith in rw e; behind = refl }
+module _ {X : Type 0} (none : X) (n : ℕ) (whole : List X) where
+  pub filling-start : n ≤ 99 → length whole ≡ n → Filling none n whole (replicate 99 none) 0
+  filling-start h e = record { within = omega arith; few = h; size = e; long = refl; front = refl; behind = refl }
 
-module _ (k : Kind) (n : ℕ) (b : List ℕ) (a : List Track) (i : ℕ) (r : Reading k n b a i) where
-  pub reading-next : i < n → (v : Track) → v ≡ trackIn k (drop (16 + 8 * i) b) → Reading k n b (set a i v) (i + 1)
-  reading-next h v e =
-      let q : 16 + 8 * (i + 1) ≡ 16 + 8 * i + 8 = omega arith in
-      let m : n - i ≡ suc (n - (i + 1)) = omega arith in
-      let m' : 99 - i ≡ suc (99 - (i + 1)) = omega (arith, r .few) in
-      let l : i < length a = omega (arith, r .few, r .long) in
-      let z : drop 1 (replicate (99 - i) noTrack) ≡ replicate (99 - (i + 1)) noTrack = rw m' in
-      record {
-        within = omega arith;
-        few = r .few;
-        long = simp length-set (r .long);
-        front = rw (e, q, add-one) (more k (16 + 8 * i) (n - suc i) i b a l ∙ ap (λ (j : ℕ). take i a ++ lengthsIn k j (drop (16 + 8 * i) b)) (sym (m ∙ rw add-one)) ∙ r .front);
-        behind = drop-set-lt (i + 1) a i v (omega arith) ∙ sym (drop-drop 1 i a) ∙ ap (drop 1) (r .behind) ∙ z;
-      }
+  module _ (a : List X) (i : ℕ) (f : Filling none n whole a i) where
+    pub filling-next : i < n → (v : X) → v ≡ getD whole i none → Filling none n whole (set a i v) (i + 1)
+    filling-next h v e =
+        let m : 99 - i ≡ suc (99 - (i + 1)) = omega (arith, f .few) in
+        let l : i < length a = omega (arith, f .few, f .long) in
+        let k : i < length whole = omega (arith, f .size) in
+        let z : drop 1 (replicate (99 - i) none) ≡ replicate (99 - (i + 1)) none = rw m in
+        record {
+          within = omega arith;
+          few = f .few;
+          size = f .size;
+          long = simp length-set (f .long);
+          front = rw (add-one, take-suc-set a i v l, take-suc whole i none k, e, f .front);
+          behind = drop-set-lt (i + 1) a i v (omega arith) ∙ sym (drop-drop 1 i a) ∙ ap (drop 1) (f .behind) ∙ z;
+        }
 
-  pub reading-end : n ≤ i → a ≡ lengthsIn k n (drop 16 b) ++ replicate (99 - n) noTrack
-  unfolding lengthsIn
-  reading-end h =
-      let e : i ≡ n = omega (arith, r .within) in
-      let m : n - i ≡ 0 = omega arith in
-      let f : take i a ≡ lengthsIn k n (drop 16 b) = sym (append-nil (take i a)) ∙ (rw m at (r .front)) in
-      sym (take-append-drop i a) ∙ rw (f, r .behind, e)
+    pub filling-end : n ≤ i → a ≡ whole ++ replicate (99 - n) none
+    filling-end h =
+        let e : i ≡ n = omega (arith, f .within) in
+        let w : take i whole ≡ whole = take-all i whole (omega (arith, f .size)) in
+        sym (take-append-drop i a) ∙ rw (f .front, w, f .behind, e)
+
+-- ---- the lengths
+
+pub lengths-length : (n : ℕ) (b : List ℕ) → length (lengthsIn n b) ≡ n
+unfolding lengthsIn
+lengths-length zero b = refl
+lengths-length (suc n) b = ap suc (lengths-length n (drop 8 b))
+
+pub lengths-at : (n : ℕ) (b : List ℕ) (i : ℕ) → i < n → getD (lengthsIn n b) i noLength ≡ lengthIn (drop (8 * i) b)
+unfolding lengthsIn
+lengths-at zero b i h = absurd (omega arith)
+lengths-at (suc n) b zero h = refl
+lengths-at (suc n) b (suc i) h =
+    let e : 8 * suc i ≡ 8 + 8 * i = omega arith in
+    lengths-at n (drop 8 b) i (omega arith) ∙ rw (e, drop-drop (8 * i) 8 b)
+
+-- the length at the place i of the whole sheet
+pub length-at : (n : ℕ) (b : List ℕ) (i : ℕ) → i < n → lengthIn (drop (16 + 8 * i) b) ≡ getD (lengthsIn n (drop 16 b)) i noLength
+length-at n b i h = sym (lengths-at n (drop 16 b) i h ∙ ap lengthIn (drop-drop (8 * i) 16 b))
+
+-- ---- the first n of an array, each turned into another value
+
+module _ {X Y : Type 0} (f : X → Y) (none : Y) (d : X) (a : List X) (n : ℕ) (h : n ≤ length a) where
+  pub turned-length : length (map f (take n a)) ≡ n
+  turned-length = length-map (take n a) f ∙ length-take-le n a h
+
+  pub turned-at : (i : ℕ) → i < n → f (getD a i d) ≡ getD (map f (take n a)) i none
+  turned-at i l =
+      ap f (sym (getD-take n a i d l))
+      ∙ sym (List·getD-map f (take n a) i d)
+      ∙ past (map f (take n a)) i (f d) none (omega (arith, turned-length))
+    where
+      past : (l : List Y) (i : ℕ) (x y : Y) → i < length l → getD l i x ≡ getD l i y
+      past [] i x y h = absurd (omega arith)
+      past (z ∷ l) zero x y h = refl
+      past (z ∷ l) (suc i) x y h = past l i x y (omega arith)
+
+-- ---- the length of a sheet
 
 pub shape : (b : List ℕ) → sheetSize (length b) ≡ true → (32 ≤ length b) × (length b ≤ 816) × (length b % 8 ≡ 0)
 unfolding sheetSize
@@ -65,12 +95,10 @@ shape b h =
     let v = both (leb (length b) 816) (eqb (length b % 8) 0) (w .1) in
     (leb-true 32 (length b) (w .0), leb-true (length b) 816 (v .0), eqb-true (length b % 8) 0 (v .1))
 
-pub in-length : (b : List ℕ) → sheetSize (length b) ≡ true → length b ≡ sheetLength (orderIn b)
-unfolding orderIn
+pub in-length : (b : List ℕ) → sheetSize (length b) ≡ true → length b ≡ sheetBytes (sheetIn b .count)
+unfolding sheetIn
 in-length b h = omega (arith, shape b h)
 
--- what `same_sheet` asks, of the order that was read
-pub in-fits : (b : List ℕ) (o : Order) → o ≡ orderIn b → sheetSize (length b) ≡ true → sheetFault o ≡ 0 → Fits o (length b) × (length b ≡ sheetLength o)
-in-fits b o e h f =
-    let n : length b ≡ sheetLength o = in-length b h ∙ ap sheetLength (sym e) in
-    (fits o (length b) f (omega arith), n)
+pub in-few : (b : List ℕ) → sheetSize (length b) ≡ true → sheetIn b .count ≤ mostTracks
+unfolding sheetIn
+in-few b h = omega (arith, shape b h)

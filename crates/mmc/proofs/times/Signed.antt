@@ -53,3 +53,16 @@ less f (no n) = let g : 150 ≤ f = omega arith in inr (g, simp (le-ltb f 150 g)
 
 pub down-fits : (f : ℕ) → f < 2 ^ 32 → SFits w64 (pos f -ℤ pos 150)
 down-fits f h = ⊎-elim (λ w. rw (w .1) (record { sfits = omega arith })) (λ w. rw (w .1) (record { sfits = omega arith })) (less f (decLt f 150))
+
+-- an address in range with a length added fits
+pub plus-fits : (a : BlockAddress) (k : ℕ) → inRange a ≡ true → k < 2 ^ 32 → SFits w64 (a .0 +ℤ pos k)
+unfolding inRange
+plus-fits a k h l =
+    ⊎-elim
+    (λ w. rw (w .1) (record { sfits = omega arith }))
+    (λ w. rw (w .1) (from (w .0) (w .2) (decLt (w .0) k)))
+    (sorted (a .0) h)
+  where
+    from : (n : ℕ) → n ≤ 149 → Dec (n < k) → SFits w64 (negsuc n +ℤ pos k)
+    from n s (yes g) = rw (minus k n g) (record { sfits = omega arith })
+    from n s (no g) = let e : subℕ k (suc n) ≡ negsuc (suc n - suc k) = simp (lt-ltb k (suc n) (omega arith)) in rw e (record { sfits = omega arith })

@@ -5,11 +5,11 @@ use native.Mathlib.Omega.{arith}
 use lib.ListN.{length, take, drop, replicate}
 use lib.Seq.{take-at}
 use Rattle.mmc.specs.Refusals.{pass}
-use Rattle.mmc.specs.Sheet.{sheetOf, sheetLength}
+use Rattle.mmc.specs.Sheet.{sheetOf, sheetBytes}
 use Rattle.mmc.proofs.refusals.Laws.{fills-of}
 use Rattle.basics.proofs.Lists.{mapped-length}
 use Rattle.mmc.proofs.order.Tracks.{valid-few}
-use Rattle.mmc.proofs.sheet.Entries.{fits, sheeted}
+use Rattle.mmc.proofs.sheet.Entries.{has-room, sheeted}
 use Rattle.mmc.proofs.sheet.Laws.{sheet-length}
 use borrow.Author.Needs.{needs}
 use Rattle.mmc.proofs.sheet.fill_sheet.Statement.{statement}
@@ -27,7 +27,7 @@ slice-aggregate-put-sheet c = search needs
 put-sheet-requires : tie.Need-put-sheet-requires
 put-sheet-requires c κs =
     let st = c .before .before in
-    fits (st .args .o) 816 (st .pre) (omega (arith, few st))
+    has-room (st .args .o) 816 (st .pre) (omega (arith, few st))
 
 cast-n : tie.Need-cast-n
 cast-n c = search needs
@@ -61,8 +61,8 @@ returns c =
     let p = f .before .before .before .before .before .before in
     let st = p .before .before .before in
     let o = st .args .o in
-    let z : sheetLength o - 0 ≡ sheetLength o = omega arith in
-    let e = ap (take (sheetLength o - 0)) (p .put-sheet .ensures) ∙ ap (λ (j : ℕ). take j (sheetOf o ++ drop (sheetLength o) (replicate 816 0))) z ∙ take-at (sheetOf o) _ (sheetLength o) (sheet-length o (sized st) (st .pre)) in
+    let z : sheetBytes (o .count) - 0 ≡ sheetBytes (o .count) = omega arith in
+    let e = ap (take (sheetBytes (o .count) - 0)) (p .put-sheet .ensures) ∙ ap (λ (j : ℕ). take j (sheetOf o ++ drop (sheetBytes (o .count)) (replicate 816 0))) z ∙ take-at (sheetOf o) _ (sheetBytes (o .count)) (sheet-length o (sized st) (st .pre)) in
     fills-of (ap pass (sym e)) (f .fill .ensures)
 
 pub fill-sheet-spec : {M : Type 1} → statement M

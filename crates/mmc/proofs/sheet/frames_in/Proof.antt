@@ -1,57 +1,43 @@
-use Prim.Native.Nat.{_-_}
-use native.Mathlib.Omega.{arith}
 use lib.Seq.{getD-drop}
 use borrow.Author.Needs.{needs}
 use Rattle.mmc.specs.Sheet.{framesIn}
 use Rattle.mmc.proofs.sheet.frames_in.Statement.{statement}
 use Rattle.mmc.proofs.sheet.frames_in.Tie as tie
 
-add-byte-at : tie.Need-add-byte-at
-add-byte-at c = search needs
+add-t3 : tie.Need-add-t3
+add-t3 c = search needs
 
-byte-at-requires : tie.Need-byte-at-requires
-byte-at-requires c κs = search needs
+shared-slice-read-t5 : tie.Need-shared-slice-read-t5
+shared-slice-read-t5 c = search needs
 
-mul-result : tie.Need-mul-result
-mul-result c = search needs
+add-t6 : tie.Need-add-t6
+add-t6 c = search needs
 
-add-byte-at-2 : tie.Need-add-byte-at-2
-add-byte-at-2 c = search needs
+shared-slice-read-t8 : tie.Need-shared-slice-read-t8
+shared-slice-read-t8 c = search needs
 
-byte-at-requires-2 : tie.Need-byte-at-requires-2
-byte-at-requires-2 c κs = search needs
+add-t9 : tie.Need-add-t9
+add-t9 c = search needs
 
-add-result : tie.Need-add-result
-add-result c = search needs
+shared-slice-read-t11 : tie.Need-shared-slice-read-t11
+shared-slice-read-t11 c = search needs
 
-mul-result-2 : tie.Need-mul-result-2
-mul-result-2 c = search needs
-
-add-byte-at-3 : tie.Need-add-byte-at-3
-add-byte-at-3 c = search needs
-
-byte-at-requires-3 : tie.Need-byte-at-requires-3
-byte-at-requires-3 c κs = search needs
-
-add-result-2 : tie.Need-add-result-2
-add-result-2 c = search needs
+frames-of-requires : tie.Need-frames-of-requires
+frames-of-requires c κs = search needs
 
 returns : tie.Need-returns
 unfolding framesIn
-returns c = simp getD-drop (omega arith)
+returns c = simp (c .frames-of .ensures, getD-drop)
 
 pub frames-in-spec : {M : Type 1} → statement M
 frames-in-spec =
     tie.close
     (tie.spec
-    add-byte-at
-    byte-at-requires
-    mul-result
-    add-byte-at-2
-    byte-at-requires-2
-    add-result
-    mul-result-2
-    add-byte-at-3
-    byte-at-requires-3
-    add-result-2
+    add-t3
+    shared-slice-read-t5
+    add-t6
+    shared-slice-read-t8
+    add-t9
+    shared-slice-read-t11
+    frames-of-requires
     returns)

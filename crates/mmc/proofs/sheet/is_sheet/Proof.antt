@@ -6,10 +6,11 @@ use lib.ListN.{length, take, drop, replicate}
 use lib.Seq.{take-at}
 use Rattle.basics.specs.Bytes.{sameBytes}
 use Rattle.mmc.specs.Refusals.{faultIn, numberOf}
-use Rattle.mmc.specs.Sheet.{isSheet, sheetOf, sheetLength, sheetFault}
+use Rattle.mmc.specs.Sheet.{isSheet, orderFor, sheetOf, sheetBytes, sheetFault}
+use Rattle.mmc.specs.declared.order.Order.{Order}
 use Rattle.mmc.proofs.refusals.Laws.{numbered}
 use Rattle.basics.proofs.Lists.{mapped-length}
-use Rattle.mmc.proofs.sheet.Entries.{fits}
+use Rattle.mmc.proofs.sheet.Entries.{has-room}
 use Rattle.mmc.proofs.sheet.Reading.{shape, in-length}
 use Rattle.mmc.proofs.sheet.Laws.{sheet-length}
 use borrow.Author.Needs.{needs}
@@ -19,8 +20,9 @@ use Rattle.mmc.proofs.sheet.is_sheet.Tie as tie
 sized : (c : tie.Start) → length (c .args .o .tracks) ≡ 99
 sized c = search (needs, mapped-length)
 
-long : (c : tie.Start) → length (c .args .b .now) ≡ sheetLength (c .args .o)
-long c = in-length (c .args .b .now) (c .pre .0) ∙ ap sheetLength (sym (c .pre .1))
+long : (c : tie.Start) → length (c .args .b .now) ≡ sheetBytes (c .args .o .count)
+unfolding orderFor
+long c = in-length (c .args .b .now) (c .pre .0) ∙ ap (λ (o : Order). sheetBytes (o .count)) (sym (c .pre .1))
 
 faultless : (c : tie.After-sheet) → sheetFault (c .before .before .before .before .before .args .o) ≡ 0
 faultless c = sym (c .before .before .before .check-sheet .ensures) ∙ ap faultIn (c .before .enum-told2 .given .1)
@@ -41,7 +43,7 @@ put-sheet-requires : tie.Need-put-sheet-requires
 put-sheet-requires c κs =
     let k = c .before .before .before in
     let st = k .before .before in
-    fits (st .args .o) 816 (faultless c) (omega (arith, long st, shape (st .args .b .now) (st .pre .0)))
+    has-room (st .args .o) 816 (faultless c) (omega (arith, long st, shape (st .args .b .now) (st .pre .0)))
 
 sub-same : tie.Need-sub-same
 sub-same c = search needs
@@ -75,8 +77,8 @@ returns-2 c =
     let st = k .before .before in
     let o = st .args .o in
     let b = st .args .b .now in
-    let z : length b - 0 ≡ sheetLength o = omega (arith, long st) in
-    let e = ap (take (length b - 0)) (p .put-sheet .ensures) ∙ ap (λ (j : ℕ). take j (sheetOf o ++ drop (sheetLength o) (replicate 816 0))) z ∙ take-at (sheetOf o) _ (sheetLength o) (sheet-length o (sized st) (faultless t)) in
+    let z : length b - 0 ≡ sheetBytes (o .count) = omega (arith, long st) in
+    let e = ap (take (length b - 0)) (p .put-sheet .ensures) ∙ ap (λ (j : ℕ). take j (sheetOf o ++ drop (sheetBytes (o .count)) (replicate 816 0))) z ∙ take-at (sheetOf o) _ (sheetBytes (o .count)) (sheet-length o (sized st) (faultless t)) in
     c .same .ensures ∙ ap (λ (x : List ℕ). sameBytes x b) e ∙ simp (st .pre .0, ← st .pre .1, faultless t)
 
 pub is-sheet-spec : {M : Type 1} → statement M

@@ -13,8 +13,8 @@ sized c = search (needs, mapped-length)
 order-kind-requires : tie.Need-order-kind-requires
 order-kind-requires c κs = search needs
 
-lead-in-requires : tie.Need-lead-in-requires
-lead-in-requires c κs = search needs
+lead-in-entry-requires : tie.Need-lead-in-entry-requires
+lead-in-entry-requires c κs = search needs
 
 slice-aggregate-put : tie.Need-slice-aggregate-put
 slice-aggregate-put c = search needs
@@ -22,8 +22,8 @@ slice-aggregate-put c = search needs
 put-requires : tie.Need-put-requires
 put-requires c κs = search needs
 
-pause-of-requires : tie.Need-pause-of-requires
-pause-of-requires c κs = search needs
+pause-entry-requires : tie.Need-pause-entry-requires
+pause-entry-requires c κs = search needs
 
 slice-aggregate-put-2 : tie.Need-slice-aggregate-put-2
 slice-aggregate-put-2 c = search needs
@@ -45,17 +45,17 @@ returns c =
     let p = s .before .before .before in
     let l = p .before .before .before in
     let st = l .before .before .before in
-    sheet-steps (st .args .o) (st .args .out .now) (omega (arith, sized st, st .pre .few)) (l .before .order-kind .ensures) (l .lead-in .ensures) (p .put .ensures) (s .pause-of .ensures) (q .put2 .ensures) (t .put-tracks .ensures)
+    sheet-steps (st .args .o) (st .args .out .now) (omega (arith, sized st, st .pre .few)) (l .before .order-kind .ensures) (l .lead-in-entry .ensures) (p .put .ensures) (s .pause-entry .ensures) (q .put2 .ensures) (t .put-tracks .ensures)
 
 pub put-sheet-spec : {M : Type 1} → statement M
 put-sheet-spec =
     tie.close
     (tie.spec
     order-kind-requires
-    lead-in-requires
+    lead-in-entry-requires
     slice-aggregate-put
     put-requires
-    pause-of-requires
+    pause-entry-requires
     slice-aggregate-put-2
     put-requires-2
     put-tracks-requires

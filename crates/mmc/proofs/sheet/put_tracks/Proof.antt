@@ -2,7 +2,7 @@ use mathlib.Core.Path.{_∙_}
 use Prim.Native.Nat.{_-_}
 use borrow.Author.Needs.{needs}
 use Rattle.basics.proofs.Lists.{mapped-length}
-use Rattle.mmc.proofs.sheet.Entries.{Putting, putting-start, putting-next, putting-end}
+use Rattle.mmc.proofs.sheet.Entries.{Putting, putting-start, putting-next, putting-end, at-time}
 use Rattle.mmc.proofs.sheet.put_tracks.Statement.{statement}
 use Rattle.mmc.proofs.sheet.put_tracks.Tie as tie
 
@@ -24,8 +24,14 @@ loop-holds c =
     let a = st .args in
     putting-start _ (a .o .count) (a .o .tracks) (a .out .now) (st .pre .few) (search (needs, mapped-length)) (st .pre .holds) (st .pre .ends)
 
-start-of-requires : tie.Need-start-of-requires Inv-loop μ-loop
-start-of-requires c κs = search needs
+add-t12 : tie.Need-add-t12 Inv-loop μ-loop
+add-t12 c = search needs
+
+cast-t13 : tie.Need-cast-t13 Inv-loop μ-loop
+cast-t13 c = search needs
+
+start-entry-requires : tie.Need-start-entry-requires Inv-loop μ-loop
+start-entry-requires c κs = (search needs, at-time _ _ _ _ _ _ _ (c .before .loop .inv))
 
 mul-put : tie.Need-mul-put Inv-loop μ-loop
 mul-put c = search needs
@@ -39,17 +45,14 @@ slice-aggregate-put c = search needs
 put-requires : tie.Need-put-requires Inv-loop μ-loop
 put-requires c κs = search needs
 
-mul-track-blocks : tie.Need-mul-track-blocks Inv-loop μ-loop
-mul-track-blocks c = search needs
+mul-behind-track : tie.Need-mul-behind-track Inv-loop μ-loop
+mul-behind-track c = search needs
 
-array-copy-out-track-blocks : tie.Need-array-copy-out-track-blocks Inv-loop μ-loop
-array-copy-out-track-blocks c = search needs
+array-copy-out-behind-track : tie.Need-array-copy-out-behind-track Inv-loop μ-loop
+array-copy-out-behind-track c = search needs
 
-track-blocks-requires : tie.Need-track-blocks-requires Inv-loop μ-loop
-track-blocks-requires c κs = search needs
-
-add-at : tie.Need-add-at Inv-loop μ-loop
-add-at c = search needs
+behind-track-requires : tie.Need-behind-track-requires Inv-loop μ-loop
+behind-track-requires c κs = let l = c .before .before .before .before .before .before .before .before in at-time _ _ _ _ _ _ _ (l .loop .inv)
 
 add-i : tie.Need-add-i Inv-loop μ-loop
 add-i c = search needs
@@ -63,10 +66,10 @@ loop-again c =
     let e = p .before .before .before in
     let l = e .before .before in
     let a = l .before .before .before .before .before .args in
-    putting-next _ (a .o .count) (a .o .tracks) (a .out .now) (l .loop .out) (l .loop .at) (l .loop .i) (l .loop .inv) (search needs) (c .track-blocks .result) (c .track-blocks .ensures .0) (e .start-of .result) _ (e .start-of .ensures) (p .put .ensures) (p .put .kept .0)
+    putting-next _ (a .o .count) (a .o .tracks) (a .out .now) (l .loop .out) (l .loop .at) (l .loop .i) (l .loop .inv) (search needs) (c .behind-track .result) (c .behind-track .ensures) (e .start-entry .result) _ (e .start-entry .ensures) (p .put .ensures) (p .put .kept .0)
 
-lead-out-requires : tie.Need-lead-out-requires Inv-loop μ-loop
-lead-out-requires c κs = search needs
+lead-out-entry-requires : tie.Need-lead-out-entry-requires Inv-loop μ-loop
+lead-out-entry-requires c κs = at-time _ _ _ _ _ _ _ (c .before .loop .inv)
 
 mul-put-2 : tie.Need-mul-put-2 Inv-loop μ-loop
 mul-put-2 c = search needs
@@ -92,7 +95,7 @@ returns c =
     let l = e .before .before in
     let g = l .before .before .order-kind in
     let a = l .before .before .before .before .before .args in
-    rw (← g .ensures) (putting-end (g .result) (a .o .count) (a .o .tracks) (a .out .now) (l .loop .out) (l .loop .at) (l .loop .i) (l .loop .inv) (search needs) (e .lead-out .result) _ (e .lead-out .ensures) (p .put2 .ensures))
+    rw (← g .ensures) (putting-end (g .result) (a .o .count) (a .o .tracks) (a .out .now) (l .loop .out) (l .loop .at) (l .loop .i) (l .loop .inv) (search needs) (e .lead-out-entry .result) _ (e .lead-out-entry .ensures) (p .put2 .ensures))
 
 pub put-tracks-spec : {M : Type 1} → statement M
 put-tracks-spec =
@@ -103,19 +106,20 @@ put-tracks-spec =
     cast-n
     order-kind-requires
     loop-holds
-    start-of-requires
+    add-t12
+    cast-t13
+    start-entry-requires
     mul-put
     add-put
     slice-aggregate-put
     put-requires
-    mul-track-blocks
-    array-copy-out-track-blocks
-    track-blocks-requires
-    add-at
+    mul-behind-track
+    array-copy-out-behind-track
+    behind-track-requires
     add-i
     loop-less
     loop-again
-    lead-out-requires
+    lead-out-entry-requires
     mul-put-2
     add-put-2
     slice-aggregate-put-2
