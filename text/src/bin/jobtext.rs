@@ -11,8 +11,8 @@
 //! `packs` and `names` write `refused R`, say on standard error what that
 //! means, and exit with 1. A fault in the input of these four exits with 2.
 
-use second::stops::{self, Fault};
-use second::text::{write_blocks, write_text};
+use text::stops::{self, Fault};
+use text::jobs::{write_blocks, write_text};
 use std::io::{self, stdin, stdout, BufReader, BufWriter, Read, Write};
 use std::process::ExitCode;
 
