@@ -467,16 +467,22 @@ fn writes(track: TrackNumber, length: u64) -> impl Iterator<Item = Step> {
 #[cfg(test)]
 mod tests {
     use super::*;
-    use crate::blocks::order_block;
+    use crate::blocks::{seal, BLOCK};
     use crate::hex::plain;
     use crate::refusal::Sense;
-    use crate::text::order_of;
     use crate::wellformed::{
         disc_reply, profile_reply, progress_reply, sense_reply, track_reply, TrackFields,
     };
+    use text::jobs::blocks_of;
+
+    /// The block of an order in plain text, the word `order` left out.
+    fn order(line: &str) -> [u8; BLOCK] {
+        let block = blocks_of(&format!("order {line}\n")).unwrap();
+        block.try_into().unwrap()
+    }
 
     fn take(line: &str) -> (Job, Answer) {
-        Job::take(&order_block(&order_of(line).unwrap()).unwrap())
+        Job::take(&order(line))
     }
 
     fn track(next_writable: u32, free: u32) -> Reply {
@@ -630,10 +636,10 @@ mod tests {
     /// Bench sheet: track counts 0 and 100, as an order taken.
     #[test]
     fn bench_bad_orders() {
-        let mut block = order_block(&order_of("tao data 300").unwrap()).unwrap();
+        let mut block = order("tao data 300");
         for count in [0, 100] {
             block[3] = count;
-            crate::blocks::seal(&mut block);
+            seal(&mut block);
             let (mut job, answer) = Job::take(&block);
             assert_eq!(answer, refused(Refusal::Field));
             assert_eq!((job.count(), job.ended()), (0, true));

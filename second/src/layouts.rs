@@ -148,7 +148,7 @@ fn make_command(name: &str, words: &[&str]) -> Option<Made> {
 }
 
 /// Method, flags, count, and a kind and length for each of up to 99 tracks.
-pub(crate) fn order(words: &[&str]) -> Option<Order> {
+pub fn order(words: &[&str]) -> Option<Order> {
     let [method, flags, count, pairs @ ..] = words else {
         return None;
     };
@@ -180,7 +180,7 @@ fn track(kind: &str, length: &str) -> Option<Track> {
     })
 }
 
-pub(crate) fn reply(words: &[&str]) -> Option<Reply> {
+pub fn reply(words: &[&str]) -> Option<Reply> {
     let (status, data) = words.split_first()?;
     Some(Reply {
         status: Status::from_byte(number(status)?)?,
@@ -189,7 +189,7 @@ pub(crate) fn reply(words: &[&str]) -> Option<Reply> {
 }
 
 /// A decimal number of a type's range, without a plus sign.
-pub(crate) fn number<T: FromStr>(word: &str) -> Option<T> {
+pub fn number<T: FromStr>(word: &str) -> Option<T> {
     if word.starts_with('+') {
         return None;
     }
@@ -197,7 +197,7 @@ pub(crate) fn number<T: FromStr>(word: &str) -> Option<T> {
 }
 
 /// A bit, 0 or 1.
-pub(crate) fn bit(word: &str) -> Option<bool> {
+pub fn bit(word: &str) -> Option<bool> {
     match number(word)? {
         0u8 => Some(false),
         1 => Some(true),

@@ -42,7 +42,7 @@ fn stop_line(output: &mut impl Write, refusal: Refusal, count: u64) -> io::Resul
 #[cfg(test)]
 mod tests {
     use super::*;
-    use crate::text::blocks_of;
+    use text::jobs::blocks_of;
 
     fn printed(input: &[u8]) -> String {
         let mut output = Vec::new();

@@ -1,10 +1,10 @@
 //! The jobs in the examples folder print and show what stands beside them.
 
 use second::print::print;
-use second::text::{blocks_of, text_of};
 use second::watch::watch;
 use std::fs;
 use std::path::{Path, PathBuf};
+use text::jobs::{blocks_of, text_of};
 
 fn jobs() -> Vec<PathBuf> {
     let folder = Path::new(env!("CARGO_MANIFEST_DIR")).join("../examples");

@@ -1,8 +1,8 @@
 //! The print program itself, run as the bench runs it.
 
-use second::text::blocks_of;
 use std::io::{Read, Write};
 use std::process::{Command, Stdio};
+use text::jobs::blocks_of;
 
 fn run(input: &[u8]) -> String {
     let mut child = Command::new(env!("CARGO_BIN_EXE_print"))

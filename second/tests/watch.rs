@@ -1,8 +1,8 @@
 //! The watch program itself, run as the panel runs it.
 
-use second::text::blocks_of;
 use std::io::{BufRead, BufReader, Write};
 use std::process::{Command, Stdio};
+use text::jobs::blocks_of;
 
 /// A line comes after each block, before the next one is there, and `idle`
 /// comes before all.

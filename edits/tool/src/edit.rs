@@ -122,10 +122,19 @@ pub fn all(root: &Path, crates: &[String]) -> (Vec<Edit>, Vec<String>) {
 mod tests {
     use super::*;
 
-    fn folder(name: &str) -> std::path::PathBuf {
-        let at = std::env::temp_dir().join(format!("edits-test-{}-{name}", std::process::id()));
-        fs::create_dir_all(at.join("src")).unwrap();
-        fs::write(at.join("src/lib.rt"), "a = 1;\nb = 1;\n").unwrap();
+    /// A crate's folder, which goes when its test ends.
+    struct Folder(std::path::PathBuf);
+
+    impl Drop for Folder {
+        fn drop(&mut self) {
+            let _ = fs::remove_dir_all(&self.0);
+        }
+    }
+
+    fn folder(name: &str) -> Folder {
+        let at = Folder(std::env::temp_dir().join(format!("edits-test-{}-{name}", std::process::id())));
+        fs::create_dir_all(at.0.join("src")).unwrap();
+        fs::write(at.0.join("src/lib.rt"), "a = 1;\nb = 1;\n").unwrap();
         at
     }
 
@@ -133,7 +142,7 @@ mod tests {
     fn pairs_apply_one_after_another() {
         let at = folder("pairs");
         let text = "# why\nfile: src/lib.rt\nold: a = 1;\nnew: a = 2;\nold: b = 1\nnew: b = 3\n";
-        let edit = parse("c", "l", text, &at).unwrap();
+        let edit = parse("c", "l", text, &at.0).unwrap();
         assert_eq!(edit.changes[&("src/lib.rt".to_string(), 0)], "a = 2;");
         assert_eq!(edit.changes[&("src/lib.rt".to_string(), 1)], "b = 3;");
         assert!(edit.laws.is_empty());
@@ -142,9 +151,9 @@ mod tests {
     #[test]
     fn behind_a_place() {
         let at = folder("behind");
-        let edit = parse("c", "l", "file: src/lib.rt\nafter: a = 1;\nold: = 1;\nnew: = 2;\n", &at).unwrap();
+        let edit = parse("c", "l", "file: src/lib.rt\nafter: a = 1;\nold: = 1;\nnew: = 2;\n", &at.0).unwrap();
         assert_eq!(edit.changes, Changes::from([(("src/lib.rt".to_string(), 1), "b = 2;".to_string())]));
-        assert!(parse("c", "l", "file: src/lib.rt\nafter: b\nold: a\nnew: c\n", &at).is_err());
+        assert!(parse("c", "l", "file: src/lib.rt\nafter: b\nold: a\nnew: c\n", &at.0).is_err());
     }
 
     #[test]
@@ -160,7 +169,7 @@ mod tests {
             "law: A.b\nfile: src/lib.rt\nold: a = 1;\nnew: a = 2;\n",
             "law: A.b\nfails: proofs/none.antt\nfile: src/lib.rt\nold: a = 1;\nnew: a = 2;\n",
         ] {
-            assert!(parse("c", "l", text, &at).is_err(), "{text}");
+            assert!(parse("c", "l", text, &at.0).is_err(), "{text}");
         }
     }
 }

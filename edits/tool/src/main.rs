@@ -1,5 +1,7 @@
 //! Tries wrong programs against the prover: the edits in edits/CRATE, and mutants that the tool makes. See edits/README.md.
 
+#![forbid(unsafe_code)]
+
 mod changes;
 mod edit;
 mod judge;

@@ -1,8 +1,8 @@
 //! What the tests of polled and of erasing jobs share.
 
 use second::print::print;
-use second::text::blocks_of;
 use second::watch::watch;
+use text::jobs::blocks_of;
 
 /// TAO of one track of 300 from address 0, ahead of its 35h: 52h, 55h; then 18
 /// WRITEs of 16 and one of 12.

@@ -3,9 +3,9 @@
 
 use second::cdtext_requests::requests_in;
 use second::layouts::answer;
-use second::packed::{kept, pack_text};
 use std::fs;
 use std::path::{Path, PathBuf};
+use trials::packed::{kept, pack_text};
 
 fn stored_with(program: &str, name: &str) -> PathBuf {
     let folder = Path::new(env!("CARGO_MANIFEST_DIR")).join("../crates");

@@ -2,7 +2,7 @@
 //! job can show. They come behind those of `corners`.
 
 use crate::corners::{join, lines_of, List, OPEN, TWO};
-use crate::hex;
+use second::hex;
 use Ends::{Stop, Waiting, Well};
 
 /// A polling of one round: 00h succeeds, and 03h reports progress 0.

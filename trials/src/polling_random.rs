@@ -1,8 +1,8 @@
 //! Odd replies to the polls 00h and 03h, for random jobs.
 
-use crate::blocks::Reply;
-use crate::rng::Rng;
-use crate::wellformed::{progress_reply, sense_reply};
+use second::blocks::Reply;
+use second::rng::Rng;
+use second::wellformed::{progress_reply, sense_reply};
 
 /// Progress at the ends of its bytes.
 const EDGES: [u16; 8] = [0, 1, 0xFF, 0x100, 0x7FFF, 0x8000, 0xFF00, 0xFFFF];

@@ -29,10 +29,10 @@
 //! An order is its method, flags (1 keep, 2 protect, 4 immed, 8 erase) and
 //! count, and 99 rows of kind and length (4); rows behind its tracks are 0.
 
-use crate::hex;
-use crate::layouts::{bit, is_request, number, order, reply};
-use crate::text::clip;
-use crate::units::{Order, MOST_TRACKS};
+use second::hex;
+use second::layouts::{bit, is_request, number, order, reply};
+use second::units::{Order, MOST_TRACKS};
+use text::jobs::clip;
 
 /// A payload and a lent buffer have at most this many bytes.
 const MOST: usize = 4_096;
@@ -170,7 +170,7 @@ fn order_bytes(order: &Order) -> Vec<u8> {
 mod tests {
     use super::*;
     use crate::requests::{corners, random};
-    use crate::rng::Rng;
+    use second::rng::Rng;
 
     fn hex_of(line: &str) -> String {
         hex::plain(&pack(line).unwrap())

@@ -2,9 +2,10 @@
 //! packs as hex, one a line. Names and packs go to a request for the program
 //! that answers `cdtext_requests`, and its answers come back as text.
 
-use crate::cdtext::{MOST_PACKS, MOST_RUN, PACK};
-use crate::cdtext_requests::{Operation, Request, ANSWER_HEAD, MOST_PAYLOAD};
-use crate::hex;
+use second::cdtext::{MOST_CHARACTERS, MOST_PACKS, MOST_RUN, PACK};
+use second::cdtext_requests::{Operation, Request, ANSWER_HEAD, MOST_PAYLOAD};
+use second::hex;
+use second::units::MOST_TRACKS;
 
 /// Room for all packs, and for the titles of all packs.
 const PACKS_LENT: usize = MOST_PACKS * PACK;
@@ -21,20 +22,31 @@ pub enum Fault {
 
 // ---- requests ----
 
-/// A request for packs from a list of names. A line may end in CR and LF, the
-/// last one without; its other bytes are passed as they are.
+/// A request for packs from a list of names. A zero byte in a line is a fault,
+/// since in the request it would end the name; other bytes are passed as they
+/// are.
 pub fn packs_request(list: &[u8]) -> Result<Vec<u8>, String> {
-    let lines = list.split_inclusive(|&byte| byte == b'\n');
     let mut run = Vec::with_capacity(list.len() + 1);
-    for line in lines {
-        let line = line.strip_suffix(b"\n").unwrap_or(line);
-        run.extend(line.strip_suffix(b"\r").unwrap_or(line));
+    for (number, line) in (1u64..).zip(lines_of(list)) {
+        if let Some(at) = line.iter().position(|&byte| byte == 0) {
+            return Err(format!("line {number}: {}", character_fault(line, at)));
+        }
+        run.extend(line);
         run.push(0);
     }
     let length = run.len();
     request(Operation::MakePacks, PACKS_LENT, run).ok_or(format!(
         "the names take {length} bytes with their ends; a request holds {MOST_PAYLOAD} at most"
     ))
+}
+
+/// The lines of a list. One may end in CR and LF, the last one without.
+fn lines_of(list: &[u8]) -> impl Iterator<Item = &[u8]> {
+    let lines = list.split_inclusive(|&byte| byte == b'\n');
+    lines.map(|line| {
+        let line = line.strip_suffix(b"\n").unwrap_or(line);
+        line.strip_suffix(b"\r").unwrap_or(line)
+    })
 }
 
 /// A request for names from packs in hex. Blank lines are left out; an error
@@ -106,10 +118,40 @@ pub fn meaning(refusal: u8) -> &'static str {
     }
 }
 
+/// Why a list of names is refused with 17: its first line that is no name, or
+/// how many there are.
+pub fn why_refused(list: &[u8]) -> Option<String> {
+    let faults = (1u64..).zip(lines_of(list).map(name_fault));
+    let mut told = faults.filter_map(|(number, fault)| Some(format!("line {number}: {}", fault?)));
+    told.next().or_else(|| match lines_of(list).count() {
+        0 => Some(format!("no names; a list has 1 to {MOST_TRACKS}")),
+        1..=MOST_TRACKS => None,
+        count => Some(format!("{count} names; a list has 1 to {MOST_TRACKS}")),
+    })
+}
+
+fn name_fault(line: &[u8]) -> Option<String> {
+    if line.is_empty() {
+        return Some("empty; a name has at least one character".to_string());
+    }
+    if let Some(at) = line.iter().position(|byte| !(0x20..=0x7E).contains(byte)) {
+        return Some(character_fault(line, at));
+    }
+    let length = line.len();
+    (length > MOST_CHARACTERS)
+        .then(|| format!("{length} characters; a name has {MOST_CHARACTERS} at most"))
+}
+
+/// Says which byte of a line is no character of a name.
+fn character_fault(line: &[u8], at: usize) -> String {
+    let (number, byte) = (at + 1, line[at]);
+    format!("character {number} is {byte:02X}h; a name has characters from 20h to 7Eh only")
+}
+
 #[cfg(test)]
 mod tests {
     use super::*;
-    use crate::cdtext_requests::requests_in;
+    use second::cdtext_requests::requests_in;
 
     fn answer(request: &[u8]) -> Vec<u8> {
         let requests = requests_in(request).unwrap();
@@ -168,6 +210,76 @@ mod tests {
         for refusal in [11, 17, 18, 19] {
             assert_ne!(meaning(refusal), meaning(0));
         }
+    }
+
+    #[test]
+    fn reasons_of_17() {
+        let long = |length: usize| [b"A\nB\nC\nD\n", &vec![b'~'; length][..], b"\nE\n"].concat();
+        let many = |count: usize| b"A\n".repeat(count);
+        let character = "a name has characters from 20h to 7Eh only";
+        for (list, reason) in [
+            (vec![], "no names; a list has 1 to 99".to_string()),
+            (many(100), "100 names; a list has 1 to 99".to_string()),
+            (many(300), "300 names; a list has 1 to 99".to_string()),
+            (
+                b"A\n\nB\n".to_vec(),
+                "line 2: empty; a name has at least one character".to_string(),
+            ),
+            (
+                b"\r\n".to_vec(),
+                "line 1: empty; a name has at least one character".to_string(),
+            ),
+            (
+                "A\r\nB\r\nMol\u{e9}\r\n".into(),
+                format!("line 3: character 4 is C3h; {character}"),
+            ),
+            (
+                b"Mill\tLane".to_vec(),
+                format!("line 1: character 5 is 09h; {character}"),
+            ),
+            (
+                b"A\nB\x7F\n".to_vec(),
+                format!("line 2: character 2 is 7Fh; {character}"),
+            ),
+            (
+                b"A\r\r\n".to_vec(),
+                format!("line 1: character 2 is 0Dh; {character}"),
+            ),
+            (
+                long(161),
+                "line 5: 161 characters; a name has 160 at most".to_string(),
+            ),
+        ] {
+            assert_eq!(packs(&list), Err(Fault::Refused(17)));
+            assert_eq!(why_refused(&list), Some(reason));
+        }
+        for list in [long(160), many(99), b" ~".to_vec()] {
+            assert!(packs(&list).is_ok());
+            assert_eq!(why_refused(&list), None);
+        }
+    }
+
+    /// The reason is found just where the list is refused with 17.
+    #[test]
+    fn reasons_for_each_byte() {
+        for byte in 1..=255 {
+            let list = [b'A', byte, b'B', b'\n', b'C', byte];
+            let refused = packs(&list) == Err(Fault::Refused(17));
+            assert_eq!(why_refused(&list).is_some(), refused, "{byte:02X}h");
+        }
+    }
+
+    #[test]
+    fn a_zero_byte_is_no_end_of_a_name() {
+        let error = |list: &[u8]| packs_request(list).unwrap_err();
+        let told = |line: u64, at: u64| {
+            format!(
+                "line {line}: character {at} is 00h; a name has characters from 20h to 7Eh only"
+            )
+        };
+        assert_eq!(error(b"A\nMill\0Farm\nB\n"), told(2, 5));
+        assert_eq!(error(b"\0"), told(1, 1));
+        assert_eq!(error(b"A\nB\0\r\n"), told(2, 2));
     }
 
     #[test]

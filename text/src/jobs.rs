@@ -16,10 +16,10 @@
 //! block 02 00                (any bytes up to 512; fewer only at the end)
 //! ```
 
-use crate::blocks::{self, Reply, Status, BLOCK, MOST_DATA};
-use crate::hex;
-use crate::units::{Flags, Kind, Method, Order, Track, MOST_TRACKS};
-use crate::wellformed::{
+use second::blocks::{self, Reply, Status, BLOCK, MOST_DATA};
+use second::hex;
+use second::units::{Flags, Kind, Method, Order, Track, MOST_TRACKS};
+use second::wellformed::{
     busy_reply, disc_reply, profile_reply, progress_reply, sense_reply, track_reply, TrackFields,
 };
 use std::io::{self, BufRead, Read, Write};
@@ -129,12 +129,6 @@ fn track_count_error() -> String {
 
 fn data_length_error() -> String {
     format!("a reply block holds at most {MOST_DATA} data bytes")
-}
-
-/// The order of a line without the word `order`.
-pub fn order_of(text: &str) -> Parsed<Order> {
-    let words: Vec<&str> = text.split_whitespace().collect();
-    parse_order(&words)
 }
 
 fn parse_order(words: &[&str]) -> Parsed<Order> {
@@ -437,7 +431,7 @@ fn named_sense(data: &[u8]) -> (String, Reply) {
 #[cfg(test)]
 mod tests {
     use super::*;
-    use crate::rng::Rng;
+    use second::rng::Rng;
 
     const SAMPLE: &str = "\
 order tao keep protect data 300 audio 317

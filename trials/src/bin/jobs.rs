@@ -9,11 +9,11 @@
 
 use second::cdtext_requests::Request;
 use second::rng::Rng;
-use second::{cdtext_corners, cdtext_random, corners, random, requests};
 use std::fs;
 use std::io::{self, stdout, BufWriter, Write};
 use std::path::Path;
 use std::process::ExitCode;
+use trials::{cdtext_corners, cdtext_random, corners, random, requests};
 
 const USAGE: &str = "usage: jobs random SEED COUNT DIR
        jobs corners DIR

@@ -2,11 +2,11 @@
 //! that a job can show. Those of document 02, Asks 1 and 2, stand in
 //! `polling_corners` and `erasing_corners`.
 
-use crate::blocks::{seal, BLOCK};
+use second::blocks::{seal, BLOCK};
 use crate::erasing_corners::erasing;
-use crate::hex;
+use second::hex;
 use crate::polling_corners::polling;
-use crate::text::blocks_of;
+use text::jobs::blocks_of;
 
 /// A named job: the print program's input, its last line by document 01, and
 /// what the job shows.
@@ -579,7 +579,7 @@ fn counts(list: &mut List) {
 #[cfg(test)]
 mod tests {
     use super::*;
-    use crate::print::print;
+    use second::print::print;
     use std::collections::BTreeSet;
 
     #[test]

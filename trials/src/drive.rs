@@ -1,13 +1,13 @@
 //! A plausible drive: it answers each command properly, going by the
 //! command's bytes alone.
 
-use crate::blocks::{Reply, Status};
-use crate::commands::{
+use second::blocks::{Reply, Status};
+use second::commands::{
     has_immed, BLANK, CLOSE_TRACK, CLOSE_TRACK_SESSION, GET_CONFIGURATION, READ_DISC_INFORMATION,
     READ_TRACK_INFORMATION, REQUEST_SENSE, TEST_UNIT_READY, WRITE,
 };
-use crate::rng::Rng;
-use crate::wellformed::{
+use second::rng::Rng;
+use second::wellformed::{
     disc_reply, profile_reply, progress_reply, sense_reply, track_reply, TrackFields,
 };
 

@@ -2,7 +2,7 @@
 //! job can show. They come behind those of `polling_corners`.
 
 use crate::corners::{disc_data, join, lines_of, track_data, List, OPEN, SAO_300, TAO_300, TWO};
-use crate::hex;
+use second::hex;
 use crate::polling_corners::{each_disturbed, flag_words, polled_at, polled_in_detail, tao_one, Place, POLL};
 
 /// 46h and 51h of a used CD-RW.

@@ -1,18 +1,18 @@
 //! Random jobs: a plausible drive answers what this crate's own job asks, so
 //! that many jobs get deep before something odd occurs.
 
-use crate::blocks::{order_block, read_reply, reply_block, seal, Reply, Status, BLOCK, CHECK};
-use crate::commands::{
+use crate::drive::{noise, Drive, Polling};
+use crate::polling_random;
+use second::blocks::{order_block, read_reply, reply_block, seal, Reply, Status, BLOCK, CHECK};
+use second::commands::{
     BLANK, CLOSE_TRACK_SESSION, GET_CONFIGURATION, MODE_SELECT, READ_DISC_INFORMATION,
     READ_TRACK_INFORMATION, REQUEST_SENSE, SEND_CUE_SHEET, SYNCHRONIZE_CACHE, TEST_UNIT_READY,
     WRITE,
 };
-use crate::drive::{noise, Drive, Polling};
-use crate::job::{Answer, Command, Job};
-use crate::polling_random;
-use crate::rng::Rng;
-use crate::units::{Flags, Kind, Method, Order, Track, LAST_ADDRESS, MOST_TRACKS};
-use crate::wellformed::{
+use second::job::{Answer, Command, Job};
+use second::rng::Rng;
+use second::units::{Flags, Kind, Method, Order, Track, LAST_ADDRESS, MOST_TRACKS};
+use second::wellformed::{
     busy_reply, disc_reply, profile_reply, sense_reply, track_reply, TrackFields,
 };
 

@@ -4,9 +4,9 @@
 //!   over, and any other line that is no request is an error
 //! - `pack --kept` writes the lines that are requests, as they stand
 
-use second::packed::{kept, pack_text};
 use std::io::{self, stdin, stdout, Write};
 use std::process::ExitCode;
+use trials::packed::{kept, pack_text};
 
 const USAGE: &str = "usage: pack < requests.txt > requests.bin
        pack --kept < requests.txt > kept.txt";

@@ -1,13 +1,13 @@
 //! Random CD-TEXT requests: mostly allowed titles and their packs, and each
 //! sort of damage to them.
 
-use crate::cdtext::{
+use second::cdtext::{
     CHECKED, HEADER, MOST_CHARACTERS, MOST_PACKS, MOST_RUN, PACK, PAYLOAD, SIZE_PACKS,
 };
-use crate::cdtext_forge::{forge, packs_of, record_place, renumber, repair};
-use crate::cdtext_requests::{Operation, Request, MOST_LENT, MOST_PAYLOAD};
-use crate::rng::Rng;
-use crate::units::MOST_TRACKS;
+use second::cdtext_forge::{forge, packs_of, record_place, renumber, repair};
+use second::cdtext_requests::{Operation, Request, MOST_LENT, MOST_PAYLOAD};
+use second::rng::Rng;
+use second::units::MOST_TRACKS;
 
 /// A random request.
 pub fn request(rng: &mut Rng) -> Request {
@@ -338,8 +338,8 @@ fn forged_text(rng: &mut Rng, run: &[u8]) -> Vec<u8> {
 #[cfg(test)]
 mod tests {
     use super::*;
-    use crate::cdtext::{make_packs, read_titles};
-    use crate::refusal::Refusal;
+    use second::cdtext::{make_packs, read_titles};
+    use second::refusal::Refusal;
     use std::collections::BTreeMap;
 
     #[test]

@@ -11,18 +11,19 @@
 //!   which stand there in their binary form
 //!
 //! A program is a file's path, or words parted by spaces: a program and its
-//! arguments.
+//! arguments. One that ends by a signal, or with another exit status than 0,
+//! makes a difference whatever it wrote.
 
 use second::cdtext_requests::{requests_in, Request, ANSWER_HEAD};
 use second::hex;
 use second::layouts::answer;
-use second::packed::{kept, pack};
-use second::text::{clip, write_text};
 use std::fs::{self, File};
 use std::io::{self, BufReader, Write};
 use std::path::{Path, PathBuf};
 use std::process::{Command, ExitCode, Output, Stdio};
 use std::thread;
+use text::jobs::{clip, write_text};
+use trials::packed::{kept, pack};
 
 const USAGE: &str = "usage: compare PROGRAM_A PROGRAM_B DIR
        compare --lines PROGRAM_A PROGRAM_B FILE
@@ -56,8 +57,14 @@ fn main() -> ExitCode {
     }
 }
 
-/// A program's whole output for an input file.
-fn output_of(program: &str, input: &Path) -> Result<Vec<u8>, String> {
+/// What a program wrote, and how it ended where that is not with exit status 0.
+struct Ran {
+    output: Vec<u8>,
+    fault: Option<String>,
+}
+
+/// Runs a program on an input file.
+fn ran_on(program: &str, input: &Path) -> Result<Ran, String> {
     let fault = |error: io::Error| format!("{program}: {error}");
     let input = File::open(input).map_err(|error| format!("{}: {error}", input.display()))?;
     let output = command(program)?
@@ -65,11 +72,11 @@ fn output_of(program: &str, input: &Path) -> Result<Vec<u8>, String> {
         .stderr(Stdio::inherit())
         .output()
         .map_err(fault)?;
-    written_by(program, output)
+    Ok(ran(output))
 }
 
-/// A program's whole output for an input in memory.
-fn output_for(program: &str, input: &[u8]) -> Result<Vec<u8>, String> {
+/// Runs a program on an input in memory.
+fn ran_with(program: &str, input: &[u8]) -> Result<Ran, String> {
     let fault = |error: io::Error| format!("{program}: {error}");
     let mut child = command(program)?
         .stdin(Stdio::piped())
@@ -82,14 +89,25 @@ fn output_for(program: &str, input: &[u8]) -> Result<Vec<u8>, String> {
         scope.spawn(move || stdin.map(|mut stdin| stdin.write_all(input)));
         child.wait_with_output()
     });
-    written_by(program, output.map_err(fault)?)
+    Ok(ran(output.map_err(fault)?))
 }
 
-fn written_by(program: &str, output: Output) -> Result<Vec<u8>, String> {
-    match output.status.code() {
-        Some(_) => Ok(output.stdout),
-        None => Err(format!("{program}: ended by a signal")),
+fn ran(output: Output) -> Ran {
+    let fault = (!output.status.success()).then(|| output.status.to_string());
+    Ran {
+        output: output.stdout,
+        fault,
     }
+}
+
+/// Whether each program ended with exit status 0; tells how another one ended.
+fn ended_well(programs: &[(&str, &Ran)]) -> bool {
+    for (program, ran) in programs {
+        if let Some(fault) = &ran.fault {
+            println!("{program}: ended with {fault} in the place of exit status 0");
+        }
+    }
+    programs.iter().all(|(_, ran)| ran.fault.is_none())
 }
 
 fn command(program: &str) -> Result<Command, String> {
@@ -130,28 +148,32 @@ fn compare_jobs(a: &str, b: &str, dir: &Path) -> Result<bool, String> {
         if done > 0 && done % PROGRESS == 0 {
             eprintln!("{done} of {} jobs", files.len());
         }
-        let [out_a, out_b] = [output_of(a, file), output_of(b, file)];
-        let (out_a, out_b) = match (out_a, out_b) {
-            (Ok(out_a), Ok(out_b)) => (out_a, out_b),
-            (Err(error), _) | (_, Err(error)) => {
-                describe(dir, file);
-                return Err(error);
-            }
-        };
-        if let Some((number, line_a, line_b)) = first_difference(&out_a, &out_b) {
+        if let Some(told) = job_difference(a, b, file)? {
             describe(dir, file);
-            println!("line {number} differs:\n  {a}: {line_a}\n  {b}: {line_b}");
+            println!("{told}");
             println!("{} jobs, 1 difference", done + 1);
-            return Ok(false);
-        }
-        if !is_whole(&out_a) {
-            describe(dir, file);
-            println!("both outputs lack a last line that tells the job's end");
             return Ok(false);
         }
     }
     println!("{} jobs, 0 differences", files.len());
     Ok(true)
+}
+
+/// What is wrong with what two programs do with a job, if anything is.
+fn job_difference(a: &str, b: &str, file: &Path) -> Result<Option<String>, String> {
+    let (ran_a, ran_b) = (ran_on(a, file)?, ran_on(b, file)?);
+    let ended = ended_well(&[(a, &ran_a), (b, &ran_b)]);
+    if let Some((number, line_a, line_b)) = first_difference(&ran_a.output, &ran_b.output) {
+        let told = format!("line {number} differs:\n  {a}: {line_a}\n  {b}: {line_b}");
+        return Ok(Some(told));
+    }
+    Ok(if !ended {
+        Some("the outputs are the same".to_string())
+    } else if !is_whole(&ran_a.output) {
+        Some("both outputs lack a last line that tells the job's end".to_string())
+    } else {
+        None
+    })
 }
 
 fn job_files(dir: &Path) -> Result<Vec<PathBuf>, String> {
@@ -233,22 +255,32 @@ fn differs(number: usize, request: &str, answers: [(&str, &str); 2]) {
     }
 }
 
+/// The closing line where all answers are the same: whether the programs ended
+/// well too.
+fn closed(count: usize, what: &str, ended: bool) -> bool {
+    match ended {
+        true => println!("{count} {what}, 0 differences"),
+        false => println!("{count} {what}, 1 difference"),
+    }
+    ended
+}
+
 fn compare_lines(a: &str, b: &str, file: &Path) -> Result<bool, String> {
     let requests = some(file, lines_of(&read_file(file)?))?;
-    let (out_a, out_b) = (output_of(a, file)?, output_of(b, file)?);
-    if let Some((number, line_a, line_b)) = first_difference(&out_a, &out_b) {
+    let (ran_a, ran_b) = (ran_on(a, file)?, ran_on(b, file)?);
+    let ended = ended_well(&[(a, &ran_a), (b, &ran_b)]);
+    if let Some((number, line_a, line_b)) = first_difference(&ran_a.output, &ran_b.output) {
         let request = requests.get(number - 1).map_or("(no request)", |r| r);
         differs(number, request, [(a, &line_a), (b, &line_b)]);
         println!("{number} lines, 1 difference");
         return Ok(false);
     }
-    let answers = lines_of(&out_a).len();
+    let answers = lines_of(&ran_a.output).len();
     if answers != requests.len() {
         println!("{} requests, but {answers} answers of both", requests.len());
         return Ok(false);
     }
-    println!("{} lines, 0 differences", requests.len());
-    Ok(true)
+    Ok(closed(requests.len(), "lines", ended))
 }
 
 fn compare_requests(program: &str, file: &Path) -> Result<bool, String> {
@@ -260,23 +292,24 @@ fn compare_requests(program: &str, file: &Path) -> Result<bool, String> {
         answers += &answer(request);
         answers.push('\n');
     }
-    let output = output_for(program, &packed)?;
-    if let Some((number, theirs, ours)) = first_difference(&output, answers.as_bytes()) {
+    let ran = ran_with(program, &packed)?;
+    let ended = ended_well(&[(program, &ran)]);
+    if let Some((number, theirs, ours)) = first_difference(&ran.output, answers.as_bytes()) {
         let request = requests.get(number - 1).unwrap_or(&"(no request)");
         differs(number, request, [(program, &theirs), ("expected", &ours)]);
         println!("{number} requests, 1 difference");
         return Ok(false);
     }
-    println!("{} requests, 0 differences", requests.len());
-    Ok(true)
+    Ok(closed(requests.len(), "requests", ended))
 }
 
 fn compare_cdtext(program: &str, file: &Path) -> Result<bool, String> {
     let bytes = read_file(file)?;
     let requests = requests_in(&bytes).map_err(|error| format!("{}: {error}", file.display()))?;
     let requests = some(file, requests)?;
-    let output = output_for(program, &bytes)?;
-    let mut rest = output.as_slice();
+    let ran = ran_with(program, &bytes)?;
+    let ended = ended_well(&[(program, &ran)]);
+    let mut rest = ran.output.as_slice();
     for (number, request) in (1..).zip(&requests) {
         let ours = request.answer();
         let (theirs, later) = rest.split_at(ours.len().min(rest.len()));
@@ -295,8 +328,7 @@ fn compare_cdtext(program: &str, file: &Path) -> Result<bool, String> {
         println!("{} requests, 1 difference", requests.len());
         return Ok(false);
     }
-    println!("{} requests, 0 differences", requests.len());
-    Ok(true)
+    Ok(closed(requests.len(), "requests", ended))
 }
 
 fn cdtext_request(request: &Request) -> String {

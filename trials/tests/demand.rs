@@ -12,7 +12,7 @@ use second::commands::{
 use second::job::{Answer, Command, Job};
 use second::rng::Rng;
 use second::units::{Method, Order};
-use second::{corners, random};
+use trials::{corners, random};
 
 /// What the good replies have brought about so far.
 #[derive(Default)]

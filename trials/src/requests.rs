@@ -1,9 +1,9 @@
 //! Requests for the layouts tool: random ones, and a fixed list of corners.
 
-use crate::blocks::{order_block, reply_block, seal, Reply, Status, BLOCK, MOST_DATA};
-use crate::hex;
-use crate::rng::Rng;
-use crate::units::{Flags, Kind, Method, Order, Track, MOST_TRACKS};
+use second::blocks::{order_block, reply_block, seal, Reply, Status, BLOCK, MOST_DATA};
+use second::hex;
+use second::rng::Rng;
+use second::units::{Flags, Kind, Method, Order, Track, MOST_TRACKS};
 
 const LIMIT: u32 = 449_849;
 const KINDS: [Kind; 2] = [Kind::Audio, Kind::Data];
@@ -795,7 +795,7 @@ fn bad_corners(list: &mut Vec<String>) {
 #[cfg(test)]
 mod tests {
     use super::*;
-    use crate::layouts::answer;
+    use second::layouts::answer;
     use std::collections::BTreeSet;
 
     /// Random requests are understood, and both succeed and are refused.

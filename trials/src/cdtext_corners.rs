@@ -1,11 +1,11 @@
 //! A fixed list of CD-TEXT requests, at least one for each sentence of
 //! document 02's Ask 4, with the number each is answered with.
 
-use crate::cdtext::{
+use second::cdtext::{
     CHECKED, HEADER, MOST_CHARACTERS, MOST_PACKS, MOST_RUN, PACK, PAYLOAD, SIZE_PACKS,
 };
-use crate::cdtext_forge::{forge, packs_of, record_place, renumber, repair, run_of_lengths};
-use crate::cdtext_requests::{Operation, Request, MOST_LENT, MOST_PAYLOAD};
+use second::cdtext_forge::{forge, packs_of, record_place, renumber, repair, run_of_lengths};
+use second::cdtext_requests::{Operation, Request, MOST_LENT, MOST_PAYLOAD};
 
 /// A request, and its answer's first byte by the papers.
 pub struct Corner {

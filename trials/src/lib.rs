@@ -1,0 +1,21 @@
+//! Jobs and requests for the proved programs and the second one. `drive`,
+//! `random` and `polling_random` make random jobs, `corners`, `polling_corners`
+//! and `erasing_corners` the fixed ones; `requests` makes requests over the byte
+//! layouts, which `packed` gives in a binary form, and `cdtext_random` and
+//! `cdtext_corners` those over CD-TEXT.
+
+#![forbid(unsafe_code)]
+
+pub mod cdtext_corners;
+pub mod cdtext_random;
+#[rustfmt::skip] // a table with one job a line
+pub mod corners;
+pub mod drive;
+#[rustfmt::skip] // likewise
+pub mod erasing_corners;
+pub mod packed;
+#[rustfmt::skip] // likewise
+pub mod polling_corners;
+pub mod polling_random;
+pub mod random;
+pub mod requests;
