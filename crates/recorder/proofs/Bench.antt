@@ -1,13 +1,13 @@
 -- The bench's sheets, computed from the definitions.
 use mathlib.Core.Path.{refl}
 use Rattle.basics.specs.Bytes.{bytes32, be32}
-use Rattle.mmc.specs.Order.{allKind, allLong, blocksOf}
+use Rattle.mmc.specs.Order.{allKind, allLong, blocksOf, mixedOrKept, overlong}
 use Rattle.mmc.specs.Times.{inRange, framesTo, addressAt}
 use Rattle.mmc.specs.Commands.{writeRange, writeBytes, writeCommand, sendCueSheet, closeTrackSession}
 use Rattle.mmc.specs.Sheet.{sheetSize}
 use Rattle.mmc.proofs.Bench as Layouts
 use Rattle.recorder.specs.Replies.{hasSense, senseOf, longWrite, isBusy, readFailed, notReady, isUnready, readUnready, progressOf, readProgress, wholeProfile, readProfile, wholeDisc, discOf, readDisc, wholeInformation, informationOf, readInformation}
-use Rattle.recorder.specs.Rules.{otherProfile, unsuitable, unusable, mixedOrKept, fits, overlong, used, notErasable}
+use Rattle.recorder.specs.Rules.{otherProfile, unsuitable, unusable, fits, used, notErasable}
 use Rattle.recorder.specs.Job.{inOrder, inTime, inPiece, isWrite, standsIn}
 use Rattle.recorder.specs.Bench.{PollSheets, EraseSheets, BenchSheets}
 

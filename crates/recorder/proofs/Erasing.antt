@@ -17,7 +17,8 @@ use Rattle.recorder.specs.declared.exchanges.Seen.{Seen}
 use Rattle.recorder.specs.Replies.{reading, ofProfile, ofDisc}
 use Rattle.recorder.specs.Script.{code, isErasing}
 use Rattle.recorder.specs.Exchanges.{Exchange, profile as profileSaid, disc, erased, unblank, seen}
-use Rattle.recorder.specs.Rules.{overlong, used, notErasable, Judgement, onward, tested, erasingTests, blankTests, discTests, erases, erasingIf, judgeDisc, judge, judged, pollsIf, isLast, move, left}
+use Rattle.recorder.specs.Rules.{used, notErasable, Judgement, onward, tested, erasingTests, blankTests, discTests, erases, erasingIf, judgeDisc, judge, judged, pollsIf, isLast, move, left}
+use Rattle.mmc.specs.Order.{overlong}
 use Rattle.recorder.specs.History.{Each, Recordable, RightlyErased, ErasesRightly, BlankBefore, WritesOnBlank}
 use Rattle.recorder.proofs.Lists.{if-no, false-true, neither, Clear, tested-by}
 use Rattle.recorder.proofs.Turns.{made, Played, nothing, then, Reads, busy, not-ready, failed, malformed, a46, a51, a03, profile, status, information, indication, ready, unread, reads, Turn, repeats, refuses, works, polls-begin, erases-first, asks, polls-on, polls-end, turn, profile-seen, erased-seen}

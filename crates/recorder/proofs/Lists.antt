@@ -10,14 +10,14 @@ use lib.ListN.{length, getD, length-append, List·getD-append}
 use lib.Seq.{getD-append-seam}
 use Rattle.basics.specs.Bytes.{if}
 use Rattle.mmc.specs.Times.{leadFrames, framesTo, addressAt}
-use Rattle.mmc.specs.Refusals.{pass}
+use Rattle.mmc.specs.Refusals.{pass, Test}
 use Rattle.mmc.specs.declared.units.FrameCount.{FrameCount}
 use Rattle.mmc.specs.declared.order.Order.{Order}
 use Rattle.recorder.specs.Answers.{Why, because}
 use Rattle.recorder.specs.declared.script.Op.{Op}
 use Rattle.recorder.specs.Script.{Block, blocks, gather}
 use Rattle.recorder.specs.Exchanges.{upward}
-use Rattle.recorder.specs.Rules.{Judgement, onward, refused, Test, tested, none, found, refusedBy}
+use Rattle.recorder.specs.Rules.{Judgement, onward, refused, tested, none, found, refusedBy}
 
 -- ---- tests
 

@@ -15,7 +15,7 @@ use Rattle.basics.specs.Bytes.{if}
 use Rattle.mmc.specs.Refusals.{Outcome, pass, valueOr}
 use Rattle.mmc.specs.Order.{mostTracks}
 use Rattle.mmc.specs.Times.{lastAddress, inRange, addressAt}
-use Rattle.mmc.specs.Sheet.{sheetSize}
+use Rattle.mmc.specs.Sheet.{sheetBytes, sheetSize}
 use Rattle.mmc.specs.Commands.{sendCueSheet, writeRange, writeBytes, writeCommand, closeTrackSession}
 use Rattle.mmc.specs.declared.units.BlockCount.{BlockCount}
 use Rattle.mmc.specs.declared.units.FrameCount.{FrameCount}
@@ -28,7 +28,7 @@ use Rattle.recorder.specs.declared.places.Following.the-variants.{Next a
 use Rattle.recorder.specs.declared.replies.Reading.{Reading}
 use Rattle.recorder.specs.declared.replies.Reading.the-variants.{Unread}
 use Rattle.recorder.specs.declared.exchanges.Seen.{Seen}
-use Rattle.recorder.specs.Answers.{sheetBytes, madeBy, cdbOf, bytesIn}
+use Rattle.recorder.specs.Answers.{madeBy, cdbOf, bytesIn}
 use Rattle.recorder.specs.Script.{takesImmed, write, portion, stepwise}
 use Rattle.recorder.specs.Exchanges.{see}
 use Rattle.recorder.specs.Rules.{lastFrame}

@@ -9,7 +9,7 @@ use lib.Dec.{ltb, leb}
 use lib.ListN.{length, getD, drop}
 use lib.Seq.{drop-cons}
 use Rattle.basics.specs.Bytes.{if}
-use Rattle.mmc.specs.Order.{leastBlocks, noTrack, tracksIn, allLong, blocksOf}
+use Rattle.mmc.specs.Order.{leastBlocks, noTrack, tracksIn, allLong, blocksOf, mixedOrKept}
 use Rattle.mmc.specs.Times.{lastAddress, leadFrames, framesTo}
 use Rattle.mmc.specs.declared.order.Order.{Order}
 use Rattle.mmc.specs.declared.order.Track.{Track}
@@ -25,7 +25,7 @@ use Rattle.recorder.specs.declared.replies.Reading.the-variants.{Unread}
 use Rattle.recorder.specs.declared.exchanges.Seen.{Seen}
 use Rattle.recorder.specs.Script.{takesImmed, write, portion}
 use Rattle.recorder.specs.Exchanges.{Named, see, name}
-use Rattle.recorder.specs.Rules.{mixedOrKept, still, leadOut, lastFrame, fits, trackTests, judge, none, refusedBy}
+use Rattle.recorder.specs.Rules.{still, leadOut, lastFrame, fits, trackTests, judge, none, refusedBy}
 use Rattle.recorder.specs.Places.{pieceEnded, beforeBlock, afterCloseTrack, pieceOf, afterIn}
 use Rattle.recorder.proofs.Lists.{none-found, false-true, both, passed-clear}
 use Rattle.recorder.proofs.Turns.{isAsking, Reads, malformed, profile, status, information, indication, ready, unread}
@@ -72,7 +72,7 @@ pub record InTrack (o : Order) (t : ℕ) (n : Named) : Type 0 where
 
 -- SAO, once 8, 9 and 10 have passed
 pub record InSession (o : Order) : Type 0 where
-  pub alike : mixedOrKept Sao o ≡ false
+  pub alike : mixedOrKept o ≡ false
   pub long : allLong (tracksIn o) ≡ true
   pub limit : blocksOf (tracksIn o) ≤ lastAddress
 

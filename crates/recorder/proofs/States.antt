@@ -4,16 +4,18 @@ use mathlib.Core.Path.{_≡_, refl, sym, ap, subst, _∙_}
 use mathlib.Core.Bool.{Bool, true, false, _&&_}
 use mathlib.Core.List.{List, [], _∷_}
 use Prim.Native.Nat.{ℕ, suc, _+_, _-_, _*_, _≤_, _<_}
+use lib.IntN.{pos}
 use native.Mathlib.Omega.{arith}
-use borrow.Author.Tests.{lt-ltb, le-leb, eq-eqb, ltb-true, ltb-false, not-false}
+use borrow.Author.Tests.{lt-ltb, le-ltb, le-leb, eq-eqb, ltb-true, ltb-false, not-false}
 use lib.Dec.{ltb, leb, eqb}
 use lib.ListN.{length}
 use Rattle.basics.specs.Bytes.{if}
 use Rattle.mmc.specs.Refusals.{pass}
-use Rattle.mmc.specs.Order.{tracksIn, orderKind, validOrder, allKind, blocksOf}
-use Rattle.mmc.specs.Page.{modeBytes, keepsSao, modeData}
-use Rattle.mmc.specs.Sheet.{sheetFault, entry, leadIn, pauseOf, startOf, leadOut, trackEntries, sheetOf, cueSheet}
+use Rattle.mmc.specs.Order.{tracksIn, orderKind, validOrder, allKind, blocksOf, keepsSao, mixedOrKept, overlong}
+use Rattle.mmc.specs.Page.{modeBytes, pageFault, modeData}
+use Rattle.mmc.specs.Sheet.{sheetFault, cueEntry, leadInEntry, pauseEntry, startEntry, leadOutEntry, nextTrack, behind as behindBlocks, trackEntries, sheetOf, sheetBytes, cueSheet}
 use Rattle.mmc.specs.Times.{lastAddress, framesTo}
+use Rattle.mmc.specs.declared.units.BlockAddress.{BlockAddress}
 use Rattle.mmc.specs.declared.units.FrameCount.{FrameCount}
 use Rattle.mmc.specs.declared.units.TrackNumber.{TrackNumber}
 use Rattle.mmc.specs.declared.order.Order.{Order}
@@ -27,10 +29,9 @@ use Rattle.recorder.specs.declared.answers.Command.{Command}
 use Rattle.recorder.specs.declared.exchanges.Seen.{Seen}
 use Rattle.recorder.specs.declared.job.Poll.{Poll}
 use Rattle.recorder.specs.declared.job.Poll.the-variants.{Off, Ready, Sense}
-use Rattle.recorder.specs.Answers.{sheetBytes}
 use Rattle.recorder.specs.Script.{isPoll, trackIn, write, stepwise}
 use Rattle.recorder.specs.Exchanges.{Named}
-use Rattle.recorder.specs.Rules.{mixedOrKept, lastFrame}
+use Rattle.recorder.specs.Rules.{lastFrame}
 use Rattle.recorder.specs.Places.{pieceOf}
 use Rattle.recorder.specs.Job.{dueAt, commandOf, latestProgress, inOrder, inTime, inPiece, isWrite, standsAt, standsIn, standsPolled, standsErasing, stands}
 use Rattle.recorder.specs.History.{Accompanied, FreshWrite}
@@ -170,22 +171,22 @@ stood-fresh o x p v n w s = fresh-at o x p v n w (s .standing)
 -- ---- the mode data and the cue sheet
 
 -- 8 bytes an entry
-entries-length : (k : Kind) (n a : ℕ) (ts : List Track) → length (trackEntries k n a ts) ≡ 8 * (length ts + 1)
-unfolding trackEntries startOf leadOut entry
+entries-length : (k : Kind) (n : TrackNumber) (a : BlockAddress) (ts : List Track) → length (trackEntries k n a ts) ≡ 8 * (length ts + 1)
+unfolding trackEntries startEntry leadOutEntry cueEntry
 entries-length k n a [] = refl
-entries-length k n a (t ∷ ts) = let i = entries-length k (n + 1) (a + t .length .0) ts in omega arith
+entries-length k n a (t ∷ ts) = let i = entries-length k (nextTrack n) (behindBlocks a (t .length)) ts in omega arith
 
 sheet-length : (o : Order) → length (tracksIn o) ≡ o .count → length (sheetOf o) ≡ sheetBytes (o .count)
-unfolding sheetOf leadIn pauseOf entry
-sheet-length o n = let i = entries-length (orderKind o) 1 0 (tracksIn o) in omega arith
+unfolding sheetOf leadInEntry pauseEntry cueEntry
+sheet-length o n = let i = entries-length (orderKind o) (record { 0 = 1 }) (record { 0 = pos 0 }) (tracksIn o) in omega arith
 
 -- an order that passes 8, 9 and the lead-out limit has a sheet
 no-fault : (o : Order) → validOrder (by o Sao) ≡ true → InSession (by o Sao) → sheetFault (by o Sao) ≡ 0
-unfolding sheetFault mixedOrKept
+unfolding sheetFault mixedOrKept overlong
 no-fault o v i =
     let a = neither (o .keep) _ (i .alike) in
     let k : allKind (orderKind o) (tracksIn o) ≡ true = not-false _ (a .1) in
-    let l : leb (blocksOf (tracksIn o)) lastAddress ≡ true = le-leb _ _ (i .limit) in
+    let l : ltb lastAddress (blocksOf (tracksIn o)) ≡ false = le-ltb _ _ (i .limit) in
     rw v (simp (a .0, k, i .long, l))
 
 sheet-so : (o : Order) → validOrder (by o Sao) ≡ true → InSession (by o Sao) → cueSheet (by o Sao) ≡ pass (sheetOf (by o Sao))
@@ -193,10 +194,10 @@ unfolding cueSheet
 sheet-so o v i = if-yes _ _ (eq-eqb _ _ (no-fault o v i))
 
 page-so : (o : Order) (k : Kind) → validOrder o ≡ true → keepsSao o ≡ false → modeData o k ≡ pass (modeBytes o k)
-unfolding modeData
-page-so o k v q = if-yes _ _ v ∙ if-no _ _ q
+unfolding modeData pageFault
+page-so o k v q = rw (v, q)
 
-not-kept : (o : Order) → InSession o → o .keep ≡ false
+not-kept : (o : Order) → InSession (by o Sao) → o .keep ≡ false
 unfolding mixedOrKept
 not-kept o i = neither (o .keep) _ (i .alike) .0
 
@@ -209,7 +210,7 @@ accompanied-by m o x v n z s =
   where
     kept : (m : Method) (t : TrackNumber) → Standing m (by o m) (ModeSelect t) v n → keepsSao (by o m) ≡ false
     kept Tao t s = refl
-    kept Sao t s = not-kept (by o Sao) (s .0)
+    kept Sao t s = not-kept o (s .0)
 
     sheet : (m : Method) → Standing m (by o m) SendCueSheet v n → (bytes : List ℕ) × ((cueSheet (by o m) ≡ pass bytes) × (length bytes ≡ sheetBytes (o .count)))
     sheet Tao s = absurd s

@@ -6,7 +6,7 @@ use Prim.Native.Nat.{ℕ}
 use lib.Dec.{leb, eqb}
 use lib.ListN.{length}
 use Rattle.basics.specs.Bytes.{if}
-use Rattle.mmc.specs.Refusals.{pass}
+use Rattle.mmc.specs.Refusals.{pass, Test}
 use Rattle.mmc.specs.ReplyBlock.{Reply}
 use Rattle.mmc.specs.declared.units.TrackNumber.{TrackNumber}
 use Rattle.mmc.specs.declared.order.Order.{Order}
@@ -23,7 +23,7 @@ use Rattle.recorder.specs.Answers.{Why}
 use Rattle.recorder.specs.Replies.{senseOf, isBusy, readFailed, isUnready, readUnready, wholeProfile, readProfile, wholeDisc, readDisc, wholeInformation, readInformation, readProgress, readGood, failedBy, reading, ofProfile, ofProgress}
 use Rattle.recorder.specs.Script.{code, asksReady, isPoll, isErasing, erasing, takesImmed, isPolled, polls}
 use Rattle.recorder.specs.Exchanges.{Exchange, wasReady, polling, progress, profile as profileSaid, erased, see, seen}
-use Rattle.recorder.specs.Rules.{Judgement, again, onward, refused, Test, tested, discTests, erases, erasingIf, trackTests, pollsIf, judge, judged, left, Found, none, found, firstRefused, command, answerTo, ruled, exchanged, play}
+use Rattle.recorder.specs.Rules.{Judgement, again, onward, refused, tested, discTests, erases, erasingIf, trackTests, pollsIf, judge, judged, left, Found, none, found, firstRefused, command, answerTo, ruled, exchanged, play}
 use Rattle.recorder.proofs.Lists.{tested-by}
 
 -- ---- the exchanges that the rules make

@@ -10,7 +10,7 @@ use lib.Dec.{ltb, leb, eqb, lit<, lit≤}
 use lib.ListN.{length, drop, replicate, length-append}
 use Rattle.basics.specs.Bytes.{if, be32}
 use Rattle.mmc.specs.Refusals.{pass}
-use Rattle.mmc.specs.Order.{tracksIn, blocksOf}
+use Rattle.mmc.specs.Order.{tracksIn, blocksOf, overlong}
 use Rattle.mmc.specs.Times.{leadFrames, framesTo}
 use Rattle.mmc.specs.ReplyBlock.{Reply, replyOf}
 use Rattle.mmc.specs.declared.units.FrameCount.{FrameCount}
@@ -34,7 +34,7 @@ use Rattle.recorder.specs.Answers.{Ruling}
 use Rattle.recorder.specs.Replies.{wholeProfile, readProfile, wholeDisc, discOf, readDisc, wholeInformation, informationOf, readInformation, progressOf, readProgress, reading}
 use Rattle.recorder.specs.Script.{code, isErasing, takesImmed, isPolled, gather, write, portion, blocks, blocksFrom, blocksIn, script}
 use Rattle.recorder.specs.Exchanges.{Exchange, Named, see, seen, name, named}
-use Rattle.recorder.specs.Rules.{otherProfile, lastStatus, unsuitable, unusable, still, leadOut, lastFrame, fits, overlong, used, notErasable, tested, erasingTests, blankTests, discTests, erases, erasingIf, openingTests, laterTests, Judgement, onward, trackTests, pollsIf, judge, judged, move, left, none, refusedBy, firstRefused, ruled, exchanged, play}
+use Rattle.recorder.specs.Rules.{otherProfile, lastStatus, unsuitable, unusable, still, leadOut, lastFrame, fits, used, notErasable, tested, erasingTests, blankTests, discTests, erases, erasingIf, openingTests, laterTests, Judgement, onward, trackTests, pollsIf, judge, judged, move, left, none, refusedBy, firstRefused, ruled, exchanged, play}
 use Rattle.recorder.specs.Places.{pieceEnded, beforeBlock, afterCloseTrack, opAfter, afterIn}
 use Rattle.recorder.specs.Job.{dueAt}
 use Rattle.recorder.specs.History.{AllMarkedGood, Bytes, AllBytes, discsIn, discs, Passing, Recordable, Suitable}

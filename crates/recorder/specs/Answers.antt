@@ -4,6 +4,7 @@ use mathlib.Core.List.{List, [], _++_}
 use Prim.Native.Nat.{ℕ, _+_, _-_, _*_}
 use lib.ListN.{length, take, replicate}
 use Rattle.mmc.specs.Refusals.{Outcome, pass, numberOf, valueOr}
+use Rattle.mmc.specs.Sheet.{sheetBytes}
 use Rattle.mmc.specs.Commands.{getConfiguration, readDiscInformation, readTrackInformation, modeSelect, sendCueSheet, writeCommand, synchronizeCache, closeTrackSession, testUnitReady, requestSense, blank}
 use Rattle.recorder.specs.declared.replies.Sense.{Sense}
 use Rattle.recorder.specs.declared.script.Op.{Op}
@@ -37,10 +38,6 @@ said (A.Stop r) = stop (because (numberOf r))
 said (A.DriveFailed s) = stop (drive-failed s)
 
 -- ---- the bytes of a command
-
--- 5Dh announces 8 bytes for each of n+3 entries
-abbrev pub sheetBytes : ℕ → ℕ
-sheetBytes n = 8 * (n + 3)
 
 -- those of its maker, in a job of n tracks: a WRITE starts at the command's address, "5Bh function 1, track FFh", "5Bh function 2, track 0",
 -- "With flag bit 2, Immed is set in 35h .. and 5Bh"; A1h is "01h in byte 1 (11h with Ask 1's flag ..)"

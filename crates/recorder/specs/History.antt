@@ -9,10 +9,10 @@ use lib.ListN.{length, getD}
 use lib.Dec.{ltb}
 use Rattle.basics.specs.Bytes.{if}
 use Rattle.mmc.specs.Refusals.{pass}
-use Rattle.mmc.specs.Order.{noTrack, tracksIn, allLong, blocksOf}
+use Rattle.mmc.specs.Order.{noTrack, tracksIn, allLong, blocksOf, mixedOrKept}
 use Rattle.mmc.specs.OrderBlock.{readOrder}
 use Rattle.mmc.specs.Page.{modeData}
-use Rattle.mmc.specs.Sheet.{cueSheet}
+use Rattle.mmc.specs.Sheet.{sheetBytes, cueSheet}
 use Rattle.mmc.specs.Times.{lastAddress, framesTo}
 use Rattle.mmc.specs.ReplyBlock.{Reply, replyOf}
 use Rattle.mmc.specs.declared.units.TrackNumber.{TrackNumber}
@@ -26,11 +26,11 @@ use Rattle.recorder.specs.declared.job.Phase.{Phase}
 use Rattle.recorder.specs.declared.job.Phase.the-variants.{Idle, Going, Finished, Stopped, Failed}
 use Rattle.recorder.specs.declared.job.Recorder.{Recorder}
 use Rattle.recorder.specs.declared.job.Step.{Step}
-use Rattle.recorder.specs.Answers.{Why, because, drive-failed, Ruling, issue, done, stop, sheetBytes, madeFor, bytesIn}
+use Rattle.recorder.specs.Answers.{Why, because, drive-failed, Ruling, issue, done, stop, madeFor, bytesIn}
 use Rattle.recorder.specs.Script.{gather, asksReady, isPoll, stepwise, write, Block, script, expected}
 use Rattle.recorder.specs.Replies.{ofDisc}
 use Rattle.recorder.specs.Exchanges.{Exchange, read, gathered, recorded, occupied, polling, progress, profile, disc, erased, unblank, Named, named}
-use Rattle.recorder.specs.Rules.{otherProfile, unsuitable, mixedOrKept, used, notErasable, none, found, refusal, ruled, exchanged, play, orderedIn, AllClosed}
+use Rattle.recorder.specs.Rules.{otherProfile, unsuitable, used, notErasable, none, found, refusal, ruled, exchanged, play, orderedIn, AllClosed}
 use Rattle.recorder.specs.Job.{Next, nextIn, mostCommands, latestProgress, unchanged, validOf, idleRecorder, takeOf, giveOf}
 
 -- what the calls gave back since the order was taken: the last step; all answers, and the commands with the replies to them, the
@@ -145,7 +145,7 @@ Unskipped immed before c = isPoll (c .op) ≡ polling immed before
 
 -- an order that passes 8, 9 and the lead-out limit
 pub record Recordable (o : Order) : Type 0 where
-  pub alike : mixedOrKept (o .method) o ≡ false
+  pub alike : mixedOrKept o ≡ false
   pub long : allLong (tracksIn o) ≡ true
   pub ends : blocksOf (tracksIn o) ≤ lastAddress
 

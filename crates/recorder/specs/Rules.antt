@@ -6,8 +6,8 @@ use Prim.Native.Nat.{ℕ, _+_, _-_}
 use lib.ListN.{drop}
 use lib.Dec.{ltb, leb, eqb}
 use Rattle.basics.specs.Bytes.{if}
-use Rattle.mmc.specs.Refusals.{Outcome, pass, refuse, numberOf}
-use Rattle.mmc.specs.Order.{tracksIn, orderKind, allKind, allLong, blocksOf}
+use Rattle.mmc.specs.Refusals.{Outcome, pass, refuse, numberOf, Test, test}
+use Rattle.mmc.specs.Order.{tracksIn, blocksOf, mixedOrKept, shortTrack, overlong}
 use Rattle.mmc.specs.Times.{lastAddress, leadFrames, framesTo, addressAt}
 use Rattle.mmc.specs.ReplyBlock.{Reply}
 use Rattle.mmc.specs.declared.units.FrameCount.{FrameCount}
@@ -36,14 +36,6 @@ pub data Judgement : Type 0 where
   onward : List Op → Judgement
   refused : Why → Judgement
 
--- a number of the table, and whether it applies
-pub record Test : Type 0 where
-  pub applies : Bool
-  pub number : ℕ
-
-abbrev pub test : Bool → ℕ → Test
-test b n = record { applies = b; number = n }
-
 -- "The lowest applying number is given": the first of these; without one the operation is answered, and these operations come next
 abbrev pub tested : List Test → List Op → Judgement
 tested [] xs = onward xs
@@ -58,7 +50,7 @@ judgementIn D.Erase = onward erasing
 judgementIn (D.Refused r) = refused (because (numberOf r))
 judgementIn (D.Failed s) = refused (drive-failed s)
 
--- ---- the numbers 5 to 10 and 16, of what was read
+-- ---- the numbers 5, 6, 7, 10 and 16, of what was read; 8 and 9 are of the order alone (mmc's `Order`)
 
 -- 5: "the profile is neither 0009h nor 000Ah"
 unfoldable pub otherProfile : ℕ → Bool
@@ -76,15 +68,6 @@ unsuitable m status = ltb (lastStatus m) status
 unfoldable pub unusable : Method → FrameCount → TrackInformation → Bool
 unusable m end i = i .damaged || (stepwise m && (not (i .addressed) || ltb (framesTo (i .address) .0) (end .0)))
 
--- 8: "SAO with mixed kinds or with keep appendable"
-unfoldable pub mixedOrKept : Method → Order → Bool
-mixedOrKept Tao o = false
-mixedOrKept Sao o = o .keep || not (allKind (orderKind o) (tracksIn o))
-
--- 9: "a track has fewer than 300 blocks"
-abbrev pub shortTrack : Order → Bool
-shortTrack o = not (allLong (tracksIn o))
-
 -- "the sum S of the lengths still to be recorded", from the track t on
 abbrev pub still : Order → ℕ → ℕ
 still o t = blocksOf (drop (t - 1) (tracksIn o))
@@ -101,10 +84,6 @@ lastFrame = lastAddress + leadFrames
 unfoldable pub fits : Method → ℕ → TrackInformation → Bool
 fits m s i = leb s (i .free .0) && leb (leadOut m s i) lastFrame
 
--- "10 for S alone": the lead-out address where the first track starts at 0
-unfoldable pub overlong : Order → Bool
-overlong o = ltb lastAddress (still o 1)
-
 -- "a disc of status 1 or 2"
 unfoldable pub used : ℕ → Bool
 used status = eqb status 1 || eqb status 2
@@ -120,7 +99,7 @@ abbrev pub erasingTests : Order → ℕ → DiscInformation → List Test
 erasingTests o p d =
     test (otherProfile p) 5
     ∷ test (ltb 2 (d .status)) 6
-    ∷ test (mixedOrKept (o .method) o) 8
+    ∷ test (mixedOrKept o) 8
     ∷ test (shortTrack o) 9
     ∷ test (overlong o) 10
     ∷ test (notErasable p d) 16
@@ -152,7 +131,7 @@ openingTests o t v i =
     test (otherProfile (v .profile)) 5
     ∷ test (unsuitable (o .method) (v .status)) 6
     ∷ test (unusable (o .method) (v .at) i) 7
-    ∷ test (mixedOrKept (o .method) o) 8
+    ∷ test (mixedOrKept o) 8
     ∷ test (shortTrack o) 9
     ∷ test (not (fits (o .method) (still o t) i)) 10
     ∷ []

@@ -2,7 +2,7 @@
 ghost use mathlib.Core.Path.{_≡_};
 ghost use mathlib.Core.Bool.{_||_};
 ghost use Prim.Native.Nat.{_<_, _^_};
-ghost use Rattle.mmc.specs.Times.{framesTo};
+ghost use Rattle.mmc.specs.Times.{framesTo, addressAt};
 ghost use Rattle.recorder.specs.Replies.{Unsigned, UnsignedIn};
 ghost use Rattle.recorder.specs.Script.{isErasing};
 ghost use Rattle.recorder.specs.Exchanges.{startAt, past, progressPast, unreadySeen, see};
@@ -13,6 +13,7 @@ use crate::script::asks_ready;
 use crate::script::is_erasing;
 use crate::script::takes_immed;
 use mmc::order::Method;
+use mmc::times::LEAD_FRAMES;
 use mmc::units::BlockAddress;
 use mmc::units::FrameCount;
 
@@ -34,7 +35,14 @@ pub(crate) fn frames_to(a: BlockAddress) -> u64
     requires { ⌜ Unsigned a ⌝ }
     ensures { λ r. ⌜ (r ≡ framesTo a .0) × (r < 2 ^ 33) ⌝ }
 {
-    (a.0 + 150) as u64
+    (a.0 + LEAD_FRAMES) as u64
+}
+
+// The address where the next block goes.
+pub(crate) fn address_at(at: FrameCount) -> BlockAddress
+    ensures { λ r. ⌜ r ≡ addressAt at ⌝ }
+{
+    BlockAddress(at.0 as i64 - LEAD_FRAMES)
 }
 
 // Where the next block goes once READ TRACK INFORMATION has passed.

@@ -12,6 +12,7 @@ use crate::answers::Command;
 use crate::answers::cdb_of;
 use crate::answers::no_cdb;
 use crate::exchanges::Seen;
+use crate::exchanges::address_at;
 use crate::exchanges::see_reply;
 use crate::places::Following;
 use crate::places::op_after;
@@ -19,6 +20,7 @@ use crate::places::piece_length;
 use crate::replies::Reading;
 use crate::replies::Sense;
 use crate::replies::read_reply;
+use crate::rules::LAST_FRAME;
 use crate::rules::Verdict;
 use crate::rules::judge_reply;
 use crate::script::Op;
@@ -27,6 +29,7 @@ use crate::script::is_stepwise;
 use crate::script::portion_of;
 use crate::script::takes_immed;
 use crate::script::track_of;
+use mmc::order::MOST_TRACKS;
 use mmc::order::Method;
 use mmc::order::Order;
 use mmc::order::no_order;
@@ -34,7 +37,6 @@ use mmc::order_block::read_order;
 use mmc::refusals::Check;
 use mmc::refusals::Refusal;
 use mmc::refusals::number;
-use mmc::times::address_at;
 use mmc::units::FrameCount;
 
 // Whether no order was taken yet, a job goes on, or how it ended: as done, with a number of document 01, or with 12 and the triple.
@@ -111,7 +113,7 @@ fn in_order(tracks: u8, track: u16) -> bool
 fn in_time(length: u32, at: FrameCount) -> bool
     ensures { λ r. ⌜ r ≡ inTime length at ⌝ }
 {
-    at.0 as u64 + length as u64 <= 449999
+    at.0 as u64 + length as u64 <= LAST_FRAME
 }
 
 // Whether a job of so many tracks writes a piece: a track, or in a session at once the pause too, if the next track has a block.
@@ -189,7 +191,7 @@ fn stands_in(m: Method, tracks: u8, length: u32, next: u32, place: Op, at: Frame
     if tracks < 1 {
         return false;
     }
-    if 99 < tracks {
+    if MOST_TRACKS < tracks {
         return false;
     }
     stands_at(m, tracks, length, next, place, at)
@@ -274,7 +276,7 @@ fn onward_by(poll: Poll, place: Op, next: Following, v: Seen) -> Move
 fn counted_up(n: u64) -> u64
     ensures { λ r. ⌜ r ≡ oneMore n ⌝ }
 {
-    if n < 18446744073709551615 { n + 1 } else { n }
+    if n < u64::MAX { n + 1 } else { n }
 }
 
 // Gives the command of a place.

@@ -6,8 +6,10 @@ ghost use Rattle.recorder.specs.Places.{pieceOf, pieceEnded, beforeBlock
 use crate::script::Op;
 use crate::script::portion_of;
 use crate::script::track_of;
+use mmc::order::MOST_TRACKS;
 use mmc::order::Method;
 use mmc::order::Order;
+use mmc::times::LEAD_FRAMES;
 use mmc::units::BlockCount;
 use mmc::units::TrackNumber;
 
@@ -17,14 +19,20 @@ pub(crate) enum Following {
     Nothing,
 }
 
+// The blocks of the pause before track 1 of a session at once, which starts at the first address.
+const PAUSE_BLOCKS: u32 = LEAD_FRAMES as u32;
+
+// The last track that an order can have.
+const LAST_TRACK: u32 = MOST_TRACKS as u32;
+
 // The blocks of a piece of the job: the pause, or a track; none past the last row.
 pub fn piece_length(o: Order, t: u32) -> u32
     ensures { λ r. ⌜ r ≡ pieceOf o t ⌝ }
 {
     if t == 0 {
-        return 150;
+        return PAUSE_BLOCKS;
     }
-    if 99 < t {
+    if LAST_TRACK < t {
         return 0;
     }
     let i = t as usize - 1;

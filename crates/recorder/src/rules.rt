@@ -2,10 +2,11 @@
 ghost use mathlib.Core.Path.{_≡_};
 ghost use mathlib.Core.List.{[], _∷_};
 ghost use Prim.Native.Nat.{_≤_, _<_, _^_};
+ghost use Rattle.mmc.specs.Refusals.{test};
 ghost use Rattle.mmc.specs.Times.{framesTo};
 ghost use Rattle.recorder.specs.Replies.{Unsigned, UnsignedIn, ForTrack};
 ghost use Rattle.recorder.specs.Script.{trackIn, isPolled};
-ghost use Rattle.recorder.specs.Rules.{otherProfile, unsuitable, unusable, mixedOrKept, fits, overlong, used, notErasable, test, tested, erasingTests, erasingIf, judgeDisc, trackTests, pollsIf, isLast, onward, judgementIn, untested, judge};
+ghost use Rattle.recorder.specs.Rules.{otherProfile, unsuitable, unusable, fits, used, notErasable, tested, erasingTests, erasingIf, judgeDisc, trackTests, pollsIf, isLast, onward, judgementIn, untested, judge};
 use crate::exchanges::Seen;
 use crate::exchanges::frames_to;
 use crate::replies::DiscInformation;
@@ -20,8 +21,10 @@ use mmc::order::Method;
 use mmc::order::Order;
 use mmc::order::all_long;
 use mmc::order::blocks_after;
-use mmc::order::one_kind;
+use mmc::order::is_overlong;
+use mmc::order::mixed_or_kept;
 use mmc::refusals::Refusal;
+use mmc::times;
 use mmc::units::BlockSum;
 use mmc::units::FrameCount;
 
@@ -35,12 +38,11 @@ pub(crate) enum Verdict {
     Failed(Sense),
 }
 
-// The last address of a lead-out, the frames before address 0, and the frames to that last address.
-const LAST_ADDRESS: u64 = 449849;
+// The frames before address 0.
+const LEAD_FRAMES: u64 = times::LEAD_FRAMES as u64;
 
-const LEAD_FRAMES: u64 = 150;
-
-const LAST_FRAME: u64 = 449999;
+// The frames to the last address of a lead-out.
+pub(crate) const LAST_FRAME: u64 = (times::LAST_ADDRESS + times::LEAD_FRAMES) as u64;
 
 // 5: neither CD-R nor CD-RW.
 fn other_profile(profile: u16) -> bool
@@ -77,22 +79,6 @@ fn unusable_track(m: Method, end: FrameCount, start: u64, i: TrackInformation) -
         return true;
     }
     start < end.0 as u64
-}
-
-// 8: a session at once of mixed kinds, or to be kept appendable.
-fn mixed_or_kept(o: Order) -> bool
-    ensures { λ r. ⌜ r ≡ mixedOrKept (o .method) o ⌝ }
-{
-    let m = o.method;
-    match m {
-        Method::Tao => false,
-        Method::Sao => {
-            if o.keep {
-                return true;
-            }
-            !one_kind(o)
-        }
-    }
 }
 
 // 10 where not: the blocks still to be recorded are free, and the lead-out has a time.
@@ -132,13 +118,6 @@ fn not_erasable(profile: u16, d: DiscInformation) -> bool
         return true;
     }
     !d.erasable
-}
-
-// 10 before an erasing: the blocks of all tracks alone go past the last lead-out.
-fn over_long(o: Order) -> bool
-    ensures { λ r. ⌜ r ≡ overlong o ⌝ }
-{
-    LAST_ADDRESS < blocks_after(o, 0).0
 }
 
 // The first of the numbers 5 to 10 that applies.
@@ -187,7 +166,7 @@ fn judge_used(o: Order, profile: u16, d: DiscInformation) -> Verdict
     let other = other_profile(profile);
     let order = mixed_or_kept(o);
     let short = !all_long(o);
-    let full = over_long(o);
+    let full = is_overlong(o);
     let fault = first_of(other, 2 < d.status, false, order, short, full);
     let Verdict::Onward = fault else {
         return fault;

@@ -11,7 +11,8 @@ use borrow.Author.Tests.{le-leb, leb-true}
 use Rattle.mmc.specs.Times.{inRange, framesTo, addressAt, clock, isTime, framesOf, timeOf, addressOf}
 use Rattle.basics.proofs.Tests.{both, known}
 use Rattle.mmc.specs.Refusals.{pass, refuse}
-use Rattle.mmc.proofs.times.Signed.{frames, less}
+use Rattle.basics.proofs.Signed.{less}
+use Rattle.mmc.proofs.times.Signed.{frames}
 use Rattle.mmc.specs.declared.units.BlockAddress.{BlockAddress}
 use Rattle.mmc.specs.declared.units.FrameCount.{FrameCount}
 use Rattle.mmc.specs.declared.times.Time.{Time}
@@ -66,7 +67,7 @@ range-back f h =
     ⊎-elim
     (λ w. simp (w .1, le-leb (150 - suc (f .0)) 149 (omega arith)))
     (λ w. simp (w .1, le-leb (f .0 - 150) 449849 (omega arith)))
-    (less (f .0) (decLt (f .0) 150))
+    (less (f .0) 149 (decLt (f .0) 150))
 
 -- an address in range has a time, whose address it is
 pub there : (a : BlockAddress) → inRange a ≡ true → (t : Time) × (timeOf a ≡ pass t) × (addressOf t ≡ pass a)

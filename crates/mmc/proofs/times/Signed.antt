@@ -46,14 +46,6 @@ raise a h =
     (λ w. rw (w .1) (let e = minus 4294967296 (w .0) (omega arith) in (e ∙ ap (λ (x : ℤ). pos (natAbs x)) (sym e), rw e (omega arith), rw e (omega arith))))
     (sorted (a .0) h)
 
--- f - 150 by its two cases
-pub less : (f : ℕ) → Dec (f < 150) → ((f < 150) × (pos f -ℤ pos 150 ≡ negsuc (150 - suc f))) ⊎ ((150 ≤ f) × (pos f -ℤ pos 150 ≡ pos (f - 150)))
-less f (yes l) = inl (l, simp (lt-ltb f 150 l))
-less f (no n) = let g : 150 ≤ f = omega arith in inr (g, simp (le-ltb f 150 g))
-
-pub down-fits : (f : ℕ) → f < 2 ^ 32 → SFits w64 (pos f -ℤ pos 150)
-down-fits f h = ⊎-elim (λ w. rw (w .1) (record { sfits = omega arith })) (λ w. rw (w .1) (record { sfits = omega arith })) (less f (decLt f 150))
-
 -- an address in range with a length added fits
 pub plus-fits : (a : BlockAddress) (k : ℕ) → inRange a ≡ true → k < 2 ^ 32 → SFits w64 (a .0 +ℤ pos k)
 unfolding inRange

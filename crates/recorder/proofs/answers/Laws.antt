@@ -9,7 +9,7 @@ use native.Mathlib.Omega.{arith}
 use Rattle.basics.specs.Bytes.{if, bytes32}
 use Rattle.mmc.specs.Refusals.{Outcome, pass, refuse, valueOr, answerOf, bufferOf, madeOf, Fills}
 use Rattle.mmc.specs.Commands.{sendCueSheet, writeRange, writeBytes, writeCommand, closeTrackSession}
-use Rattle.mmc.specs.Sheet.{sheetSize}
+use Rattle.mmc.specs.Sheet.{sheetBytes, sheetSize}
 use Rattle.mmc.specs.declared.units.BlockAddress.{BlockAddress}
 use Rattle.mmc.specs.declared.refusals.Refusal.{Refusal}
 use Rattle.mmc.specs.declared.refusals.Made.{Made}
@@ -17,7 +17,7 @@ use Rattle.mmc.specs.declared.refusals.Made.the-variants as M
 use Rattle.basics.proofs.Lists.{zeros}
 use Rattle.recorder.specs.declared.script.Op.{Op}
 use Rattle.recorder.specs.declared.script.Op.the-variants.{GetConfiguration, ReadDiscInformation, ReadTrackInformation, ModeSelect, SendCueSheet, Write, SynchronizeCache, CloseTrack, CloseSession, Blank, TestUnitReady, RequestSense}
-use Rattle.recorder.specs.Answers.{madeBy, cdbOf, sheetBytes}
+use Rattle.recorder.specs.Answers.{madeBy, cdbOf}
 
 -- ---- every maker makes at most twelve bytes, if it makes any
 

@@ -7,7 +7,7 @@ use mir.Val.{toZ}
 use mir.Facts.{toZ-pos, toZ-ofZ}
 use borrow.Author.Needs.{needs}
 use Rattle.mmc.specs.Times.{addressAt}
-use Rattle.mmc.proofs.times.Signed.{down-fits}
+use Rattle.basics.proofs.Signed.{down-fits}
 use Rattle.mmc.proofs.times.address_at.Statement.{statement}
 use Rattle.mmc.proofs.times.address_at.Tie as tie
 
@@ -21,11 +21,11 @@ back : (c : tie.After-struct-known) → toZ w64 (c .before .args .f .0) ≡ pos 
 back c = toZ-pos w64 (omega (arith, small c))
 
 sub-t3 : tie.Need-sub-t3
-sub-t3 c = rw (back c) (down-fits (c .before .args .f .0) (small c))
+sub-t3 c = rw (back c) (down-fits (c .before .args .f .0) 149 (small c) (omega arith))
 
 returns : tie.Need-returns
 unfolding addressAt
-returns c = rw (back c) (ap (λ (x : ℤ). record { 0 = x }) (toZ-ofZ (down-fits (c .before .args .f .0) (small c))))
+returns c = rw (back c) (ap (λ (x : ℤ). record { 0 = x }) (toZ-ofZ (down-fits (c .before .args .f .0) 149 (small c) (omega arith))))
 
 pub address-at-spec : {M : Type 1} → statement M
 address-at-spec = tie.close (tie.spec cast-t2 sub-t3 returns)

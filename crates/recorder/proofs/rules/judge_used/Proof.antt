@@ -9,7 +9,8 @@ use Rattle.recorder.specs.declared.script.Op.{Op}
 use Rattle.recorder.specs.declared.replies.DiscInformation.{DiscInformation}
 use Rattle.recorder.specs.declared.rules.Verdict.{Verdict}
 use Rattle.recorder.specs.declared.rules.Verdict.the-variants as D
-use Rattle.recorder.specs.Rules.{used, onward, Test, tested, judgementIn, erasingTests, erasingIf, refusedBy}
+use Rattle.recorder.specs.Rules.{used, onward, tested, judgementIn, erasingTests, erasingIf, refusedBy}
+use Rattle.mmc.specs.Refusals.{Test}
 use Rattle.recorder.proofs.Lists.{clash, passed-clear, refused-first, passed-first}
 use borrow.Author.Needs.{needs}
 use Rattle.recorder.proofs.rules.Verdict.{the-type}
@@ -36,7 +37,7 @@ judged : (c : tie.After-first-of) → judgementIn (c .first-of .result) ≡ test
 judged c =
     let f = c .before .before in
     let m = f .before .before in
-    simp (c .first-of .ensures, m .before .other-profile .ensures, m .mixed-or-kept .ensures, f .before .all-long .ensures, f .over-long .ensures)
+    simp (c .first-of .ensures, m .before .other-profile .ensures, m .mixed-or-kept .ensures, f .before .all-long .ensures, f .is-overlong .ensures)
 
 -- 16, and what comes next where it passes
 abbrev last : tie.Start → List Test
