@@ -8,28 +8,26 @@ use Rattle.mmc.specs.Times.{inRange, framesTo, timeOf}
 use Rattle.mmc.specs.Page.{page}
 use Rattle.mmc.specs.Sheet.{sheetFault, cueEntry, leadInEntry, pauseEntry, startEntry, leadOutEntry, trackEntries, sheetOf, cueSheet}
 use Rattle.mmc.specs.Commands.{writeRange, writeBytes, writeCommand, closeTrackSession}
-use Rattle.mmc.specs.Bench.{BenchSheets}
+use Rattle.mmc.specs.Bench.{LayoutSheets, LayoutCases}
 
-pub bench-sheets : BenchSheets
+pub layout-sheets : LayoutSheets
 unfolding bytes32 be32 sumOf allZero checkSum sealed blockFault blockRead allNone validOrder allKind allLong blocksOf mixedOrKept overlong methodOf keepOf protectOf immedOf eraseOf row rows orderBody orderBytes orderBlock trackOf tracksOf kindsOk fieldsOf headOk orderOk readOrder inRange framesTo timeOf page sheetFault cueEntry leadInEntry pauseEntry startEntry leadOutEntry trackEntries sheetOf cueSheet writeRange writeBytes writeCommand closeTrackSession
-bench-sheets =
+layout-sheets =
     record {
       block = refl;
-      none = refl;
-      hundred = refl;
-      one = refl;
-      ninety-nine = refl;
-      short = refl;
-      long = refl;
-      fits = refl;
-      beyond = refl;
-      sheet = refl;
-      starts = refl;
-      first-time = refl;
-      zero-time = refl;
-      last-time = refl;
-      no-time = refl;
-      write = refl;
+      counts = refl;
+      lengths = refl;
+      lead-outs = refl;
+      entries = refl;
+      page-start = refl;
+      times = refl;
+      first-write = refl;
+    }
+
+pub layout-cases : LayoutCases
+unfolding bytes32 be32 sumOf allZero checkSum sealed blockFault blockRead allNone validOrder methodOf keepOf protectOf immedOf eraseOf trackOf tracksOf kindsOk fieldsOf headOk orderOk readOrder closeTrackSession
+layout-cases =
+    record {
       immed = refl;
       erase = refl;
       flags = refl;

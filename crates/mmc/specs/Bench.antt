@@ -1,12 +1,12 @@
--- Document 01's "Sheets from the bench" that concern this crate, and bytes of document 02, as one statement about the
--- definitions.
+-- Document 01's "Sheets from the bench" that concern the byte layouts: those marked * by name, which the recorder's list of the marked
+-- ones takes in; and cases that carry no mark, of document 02.
 use mathlib.Core.Path.{_≡_}
-use mathlib.Core.List.{List, [], _∷_, _++_}
+use mathlib.Core.List.{List, [], _∷_, _++_, map}
 use mathlib.Core.Bool.{Bool, true, false}
-use Prim.Native.Nat.{ℕ, _-_}
+use Prim.Native.Nat.{ℕ, _-_, min}
 use lib.IntN.{ℤ, pos, negsuc}
 use lib.ListN.{take, replicate}
-use Rattle.mmc.specs.Refusals.{pass, refuse}
+use Rattle.mmc.specs.Refusals.{Outcome, pass, refuse}
 use Rattle.mmc.specs.Block.{sealed}
 use Rattle.mmc.specs.Order.{noTrack}
 use Rattle.mmc.specs.OrderBlock.{orderBytes, orderBlock, readOrder}
@@ -36,9 +36,9 @@ order m keep protect immed erase n tracks = record { method = m; keep = keep; pr
 abbrev pub oneData : ℕ → Order
 oneData l = order Sao false false false false 1 (track Data l ∷ replicate 98 noTrack)
 
--- 99 audio tracks, of which it says that it has n
+-- n audio tracks; 100 are more than there are rows
 abbrev pub counting : ℕ → Order
-counting n = order Sao false false false false n (replicate 99 (track Audio 300))
+counting n = order Sao false false false false n (replicate (min n 99) (track Audio 300) ++ replicate (99 - n) noTrack)
 
 -- the block of TAO, one data track of 300, with a byte of flags, and the order in it
 abbrev pub flagsBlock : ℕ → List ℕ
@@ -53,39 +53,66 @@ address z = record { 0 = z }
 abbrev pub time : ℕ → ℕ → ℕ → Time
 time m s f = record { minute = m; second = s; frame = f }
 
--- ---- the sheets
+-- ---- the sheets marked *
 
-pub record BenchSheets : Type 0 where
-  -- SAO, no flags, one data track of 300
-  pub block : orderBlock (oneData 300) ≡ pass (0x01 ∷ 0x02 ∷ 0x00 ∷ 0x01 ∷ 0x01 ∷ 0x00 ∷ 0x00 ∷ 0x01 ∷ 0x2C ∷ replicate 501 0 ++ 0x00 ∷ 0x32 ∷ [])
-  -- track count 0 or 100: 3; 1 and 99 pass
-  pub none : readOrder (orderBytes (order Sao false false false false 0 (replicate 99 noTrack))) ≡ refuse 3
-  pub hundred : readOrder (orderBytes (counting 100)) ≡ refuse 3
-  pub one : readOrder (orderBytes (oneData 300)) ≡ pass (oneData 300)
-  pub ninety-nine : readOrder (orderBytes (counting 99)) ≡ pass (counting 99)
-  -- length 299: 9; length 300 passes
-  pub short : sheetFault (oneData 299) ≡ 9
-  pub long : sheetFault (oneData 300) ≡ 0
-  -- SAO with S 449,849 passes; 449,850: 10
-  pub fits : sheetFault (oneData 449849) ≡ 0
-  pub beyond : sheetFault (oneData 449850) ≡ 10
-  -- audio 300 and 450
-  pub sheet : cueSheet (order Sao false false false false 2 (track Audio 300 ∷ track Audio 450 ∷ replicate 97 noTrack))
-      ≡ pass (
-      (0x01 ∷ 0x00 ∷ 0x00 ∷ 0x01 ∷ 0x00 ∷ 0x00 ∷ 0x00 ∷ 0x00 ∷ [])
-      ++ (0x01 ∷ 0x01 ∷ 0x00 ∷ 0x00 ∷ 0x00 ∷ 0x00 ∷ 0x00 ∷ 0x00 ∷ [])
-      ++ (0x01 ∷ 0x01 ∷ 0x01 ∷ 0x00 ∷ 0x00 ∷ 0x00 ∷ 0x02 ∷ 0x00 ∷ [])
-      ++ (0x01 ∷ 0x02 ∷ 0x01 ∷ 0x00 ∷ 0x00 ∷ 0x00 ∷ 0x06 ∷ 0x00 ∷ [])
-      ++ (0x01 ∷ 0xAA ∷ 0x01 ∷ 0x01 ∷ 0x00 ∷ 0x00 ∷ 0x0C ∷ 0x00 ∷ []))
-  -- TAO data, keep, protected: page starts 05 32 41 C4 08
-  pub starts : take 5 (page (flagsOrder true true false false) Data) ≡ 0x05 ∷ 0x32 ∷ 0x41 ∷ 0xC4 ∷ 0x08 ∷ []
-  -- -150 is 00:00:00, 0 is 00:02:00, 449,849 is 99:59:74; -151 is refused, 15
-  pub first-time : timeOf (address (negsuc 149)) ≡ pass (time 0 0 0)
-  pub zero-time : timeOf (address (pos 0)) ≡ pass (time 0 2 0)
-  pub last-time : timeOf (address (pos 449849)) ≡ pass (time 99 59 74)
-  pub no-time : timeOf (address (negsuc 150)) ≡ refuse 15
-  -- first SAO WRITE
-  pub write : writeCommand (address (negsuc 149)) (record { 0 = 16 }) ≡ pass (0x2A ∷ 0x00 ∷ 0xFF ∷ 0xFF ∷ 0xFF ∷ 0x6A ∷ 0x00 ∷ 0x00 ∷ 0x10 ∷ 0x00 ∷ [])
+-- what is read of the block that is written of an order
+abbrev pub readOf : Order → Outcome Order
+readOf o = readOrder (orderBytes o)
+
+-- "SAO, no flags, one data track of 300: 01 02 00 01 01 00 00 01 2C, zeros, check 00 32."
+abbrev pub Block : Type 0
+Block = orderBlock (oneData 300) ≡ pass (0x01 ∷ 0x02 ∷ 0x00 ∷ 0x01 ∷ 0x01 ∷ 0x00 ∷ 0x00 ∷ 0x01 ∷ 0x2C ∷ replicate 501 0 ++ 0x00 ∷ 0x32 ∷ [])
+
+-- "Track count 0 or 100: 3. 1 and 99 pass." Count 0 stands before 99 empty rows
+abbrev pub Counts : Type 0
+Counts = map readOf (counting 0 ∷ counting 100 ∷ counting 1 ∷ counting 99 ∷ []) ≡ refuse 3 ∷ refuse 3 ∷ pass (counting 1) ∷ pass (counting 99) ∷ []
+
+-- "Length 299: 9. Length 300 passes."
+abbrev pub Lengths : Type 0
+Lengths = map sheetFault (oneData 299 ∷ oneData 300 ∷ []) ≡ 9 ∷ 0 ∷ []
+
+-- "SAO with S 449,849 and room passes; 449,850: 10."
+abbrev pub LeadOuts : Type 0
+LeadOuts = map sheetFault (oneData 449849 ∷ oneData 449850 ∷ []) ≡ 0 ∷ 10 ∷ []
+
+-- "Audio 300 and 450"
+abbrev pub Entries : Type 0
+Entries =
+    cueSheet (order Sao false false false false 2 (track Audio 300 ∷ track Audio 450 ∷ replicate 97 noTrack))
+    ≡ pass (
+    (0x01 ∷ 0x00 ∷ 0x00 ∷ 0x01 ∷ 0x00 ∷ 0x00 ∷ 0x00 ∷ 0x00 ∷ [])
+    ++ (0x01 ∷ 0x01 ∷ 0x00 ∷ 0x00 ∷ 0x00 ∷ 0x00 ∷ 0x00 ∷ 0x00 ∷ [])
+    ++ (0x01 ∷ 0x01 ∷ 0x01 ∷ 0x00 ∷ 0x00 ∷ 0x00 ∷ 0x02 ∷ 0x00 ∷ [])
+    ++ (0x01 ∷ 0x02 ∷ 0x01 ∷ 0x00 ∷ 0x00 ∷ 0x00 ∷ 0x06 ∷ 0x00 ∷ [])
+    ++ (0x01 ∷ 0xAA ∷ 0x01 ∷ 0x01 ∷ 0x00 ∷ 0x00 ∷ 0x0C ∷ 0x00 ∷ []))
+
+-- "TAO data, keep, protected: page starts 05 32 41 C4 08."
+abbrev pub PageStart : Type 0
+PageStart = take 5 (page (flagsOrder true true false false) Data) ≡ 0x05 ∷ 0x32 ∷ 0x41 ∷ 0xC4 ∷ 0x08 ∷ []
+
+-- "-150 is 00:00:00, 0 is 00:02:00, 449,849 is 99:59:74; -151 is refused, 15."
+abbrev pub Times : Type 0
+Times =
+    map timeOf (address (negsuc 149) ∷ address (pos 0) ∷ address (pos 449849) ∷ address (negsuc 150) ∷ [])
+    ≡ pass (time 0 0 0) ∷ pass (time 0 2 0) ∷ pass (time 99 59 74) ∷ refuse 15 ∷ []
+
+-- "First SAO WRITE: 2A 00 FF FF FF 6A 00 00 10 00."
+abbrev pub FirstWrite : Type 0
+FirstWrite = writeCommand (address (negsuc 149)) (record { 0 = 16 }) ≡ pass (0x2A ∷ 0x00 ∷ 0xFF ∷ 0xFF ∷ 0xFF ∷ 0x6A ∷ 0x00 ∷ 0x00 ∷ 0x10 ∷ 0x00 ∷ [])
+
+pub record LayoutSheets : Type 0 where
+  pub block : Block
+  pub counts : Counts
+  pub lengths : Lengths
+  pub lead-outs : LeadOuts
+  pub entries : Entries
+  pub page-start : PageStart
+  pub times : Times
+  pub first-write : FirstWrite
+
+-- ---- those that carry no mark
+
+pub record LayoutCases : Type 0 where
   -- document 02: flag bit 2 is Immed, bit 3 erase; flags 15 pass, 16: 3
   pub immed : readOrder (flagsBlock 4) ≡ pass (flagsOrder false false true false)
   pub erase : readOrder (flagsBlock 8) ≡ pass (flagsOrder false false false true)

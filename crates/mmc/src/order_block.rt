@@ -5,6 +5,7 @@ ghost use Prim.Native.Nat.{_+_, _≤_};
 ghost use lib.ListN.{length, drop};
 ghost use Rattle.mmc.specs.Block.{blockFault};
 ghost use Rattle.basics.specs.Bytes.{putAt};
+ghost use Rattle.mmc.specs.Bench.{LayoutSheets, LayoutCases};
 ghost use Rattle.mmc.specs.OrderBlock.{methodOf, methodByte, kindOf, kindByte, flagsByte, headOk, kindsOk, trackOf, tracksOf, fieldsOf, orderOk, row, rows, orderBody, ReadsOrder, WritesOrder};
 use crate::block::check_block;
 use crate::block::put_check;
@@ -242,9 +243,9 @@ fn put_body(o: Order, out: &mut [u8])
     put(out, 499, &rest);
 }
 
-// Writes an order block: 3, then 11.
+// Writes an order block: 3, then 11. Its contract also keeps the bench's sheets on the layouts, which hold of the definitions.
 pub fn write_order(o: Order, out: &mut [u8]) -> Made
-    ensures { λ r. ⌜ WritesOrder o r (now (out .entry)) (now (out .exit)) ⌝ }
+    ensures { λ r. ⌜ (WritesOrder o r (now (out .entry)) (now (out .exit))) × LayoutSheets × LayoutCases ⌝ }
 {
     if !is_valid(o) {
         return Made::Refused(Refusal::FieldValue);

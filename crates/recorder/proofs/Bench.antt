@@ -1,17 +1,19 @@
 -- The bench's sheets, computed from the definitions.
 use mathlib.Core.Path.{refl}
-use Rattle.basics.specs.Bytes.{bytes32, be32}
-use Rattle.mmc.specs.Order.{allKind, allLong, blocksOf, mixedOrKept, overlong}
-use Rattle.mmc.specs.Times.{inRange, framesTo, addressAt}
+use Rattle.basics.specs.Bytes.{bytes32, be32, sumOf, allZero}
+use Rattle.mmc.specs.Block.{checkSum, sealed, blockFault, blockRead}
+use Rattle.mmc.specs.OrderBlock.{methodOf, keepOf, protectOf, immedOf, eraseOf, row, rows, orderBody, orderBytes, orderBlock, trackOf, tracksOf, kindsOk, fieldsOf, headOk, orderOk, readOrder}
+use Rattle.mmc.specs.Page.{page}
+use Rattle.mmc.specs.Order.{allNone, validOrder, allKind, allLong, blocksOf, mixedOrKept, overlong}
+use Rattle.mmc.specs.Times.{inRange, framesTo, addressAt, timeOf}
 use Rattle.mmc.specs.Commands.{writeRange, writeBytes, writeCommand, sendCueSheet, closeTrackSession}
-use Rattle.mmc.specs.Sheet.{sheetSize}
-use Rattle.mmc.proofs.Bench as Layouts
+use Rattle.mmc.specs.Sheet.{sheetSize, sheetFault, cueEntry, leadInEntry, pauseEntry, startEntry, leadOutEntry, trackEntries, sheetOf, cueSheet}
 use Rattle.recorder.specs.Replies.{hasSense, senseOf, longWrite, isBusy, readFailed, notReady, isUnready, readUnready, progressOf, readProgress, wholeProfile, readProfile, wholeDisc, discOf, readDisc, wholeInformation, informationOf, readInformation}
 use Rattle.recorder.specs.Rules.{otherProfile, unsuitable, unusable, fits, used, notErasable}
 use Rattle.recorder.specs.Job.{inOrder, inTime, inPiece, isWrite, standsIn}
-use Rattle.recorder.specs.Bench.{PollSheets, EraseSheets, BenchSheets}
+use Rattle.recorder.specs.Bench.{PollSheets, EraseSheets, StarredSheets, OtherSheets}
 
-poll-sheets : PollSheets
+pub poll-sheets : PollSheets
 unfolding sheetSize sendCueSheet closeTrackSession framesTo bytes32 be32 allKind allLong blocksOf inRange addressAt writeRange writeBytes writeCommand hasSense senseOf longWrite isBusy readFailed notReady isUnready readUnready progressOf readProgress wholeProfile readProfile wholeDisc discOf readDisc wholeInformation informationOf readInformation otherProfile unsuitable unusable mixedOrKept fits inOrder inTime inPiece isWrite standsIn
 poll-sheets =
     record {
@@ -32,7 +34,7 @@ poll-sheets =
       forged = refl;
     }
 
-erase-sheets : EraseSheets
+pub erase-sheets : EraseSheets
 unfolding sheetSize sendCueSheet closeTrackSession framesTo bytes32 be32 allKind allLong blocksOf inRange addressAt writeRange writeBytes writeCommand hasSense senseOf longWrite isBusy readFailed notReady isUnready readUnready progressOf readProgress wholeProfile readProfile wholeDisc discOf readDisc wholeInformation informationOf readInformation otherProfile unsuitable unusable mixedOrKept fits inOrder inTime inPiece isWrite standsIn overlong used notErasable
 erase-sheets =
     record {
@@ -53,26 +55,31 @@ erase-sheets =
       forged = refl;
     }
 
-pub bench-sheets : BenchSheets
-unfolding sheetSize sendCueSheet closeTrackSession framesTo bytes32 be32 allKind allLong blocksOf inRange addressAt writeRange writeBytes writeCommand hasSense senseOf longWrite isBusy readFailed wholeProfile readProfile wholeDisc discOf readDisc wholeInformation informationOf readInformation otherProfile unsuitable unusable mixedOrKept fits inOrder inTime inPiece isWrite standsIn
-bench-sheets =
+pub starred-sheets : StarredSheets
+unfolding sheetSize sendCueSheet closeTrackSession framesTo bytes32 be32 allKind allLong blocksOf inRange addressAt writeRange writeBytes writeCommand hasSense senseOf longWrite isBusy readFailed wholeProfile readProfile wholeDisc discOf readDisc wholeInformation informationOf readInformation otherProfile unsuitable unusable mixedOrKept fits inOrder inTime inPiece isWrite standsIn sumOf allZero checkSum sealed blockFault blockRead allNone validOrder methodOf keepOf protectOf immedOf eraseOf row rows orderBody orderBytes orderBlock trackOf tracksOf kindsOk fieldsOf headOk orderOk readOrder timeOf page sheetFault overlong cueEntry leadInEntry pauseEntry startEntry leadOutEntry trackEntries sheetOf cueSheet
+starred-sheets =
     record {
-      layouts = Layouts.bench-sheets;
-      short = refl;
-      long = refl;
+      block = refl;
+      counts = refl;
+      lengths = refl;
+      short-or-long = refl;
       room = refl;
-      no-room = refl;
-      fits = refl;
-      beyond = refl;
-      next = refl;
-      stale = refl;
-      tao-count = refl;
-      sao-count = refl;
-      two-count = refl;
-      write = refl;
+      lead-outs = refl;
+      last-lead-out = refl;
+      second-address = refl;
+      entries = refl;
+      page-start = refl;
+      times = refl;
+      first-write = refl;
+      write-given = refl;
+      command-counts = refl;
+    }
+
+pub other-sheets : OtherSheets
+unfolding sheetSize sendCueSheet closeTrackSession framesTo bytes32 be32 allKind allLong blocksOf inRange addressAt writeRange writeBytes writeCommand hasSense senseOf longWrite isBusy readFailed wholeProfile readProfile wholeDisc discOf readDisc wholeInformation informationOf readInformation otherProfile unsuitable unusable mixedOrKept fits inOrder inTime inPiece isWrite standsIn
+other-sheets =
+    record {
       commands = refl;
-      polling = poll-sheets;
-      erasing = erase-sheets;
       finalized = refl;
       appendable = refl;
       other-profile = refl;

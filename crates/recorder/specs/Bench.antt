@@ -1,4 +1,5 @@
--- Document 01's "Sheets from the bench", those of the layouts taken in, and cases of document 02, as one statement about the definitions.
+-- Document 01's "Sheets from the bench": those marked * as one list with one statement, the rest as another, and cases of document 02,
+-- all about the definitions.
 use mathlib.Core.Path.{_≡_}
 use mathlib.Core.Bool.{Bool, true, false}
 use mathlib.Core.List.{List, [], _∷_, _++_, map}
@@ -385,27 +386,39 @@ pub record EraseSheets : Type 0 where
       ∷ []
       ≡ replicate 3 false ++ (true ∷ true ∷ [])
 
-pub record BenchSheets : Type 0 where
-  -- those of the byte layouts
-  pub layouts : Layouts.BenchSheets
-  -- length 299: 9; length 300 passes
-  pub short : opened (order Tao (299 ∷ [])) (plain 0 0 299) ≡ 9
-  pub long : opened (order Tao (300 ∷ [])) (plain 0 0 300) ≡ 0
-  -- S equal to Free Blocks passes; one more: 10
-  pub room : opened (order Tao (300 ∷ 450 ∷ [])) (plain 1 0 750) ≡ 0
-  pub no-room : opened (order Tao (300 ∷ 450 ∷ [])) (plain 1 0 749) ≡ 10
-  -- SAO with S 449,849 and room passes; 449,850: 10
-  pub fits : opened (order Sao (449849 ∷ [])) (plain 0 0 449850) ≡ 0
-  pub beyond : opened (order Sao (449850 ∷ [])) (plain 0 0 449850) ≡ 10
-  -- second TAO address equal to the previous end passes; one less: 7
-  pub next : after 25 (order Tao (300 ∷ 317 ∷ [])) (plain 0 7 617) (plain 0 307 617) ≡ 0
-  pub stale : after 25 (order Tao (300 ∷ 317 ∷ [])) (plain 0 7 617) (plain 0 306 617) ≡ 7
-  -- one track of 300: TAO 26 commands, SAO 35; TAO 300 and 317: 50
-  pub tao-count : length (script (order Tao (300 ∷ []))) ≡ 26
-  pub sao-count : length (script (order Sao (300 ∷ []))) ≡ 35
-  pub two-count : length (script (order Tao (300 ∷ 317 ∷ []))) ≡ 50
-  -- first SAO WRITE
-  pub write : bytesAfter 5 (order Sao (300 ∷ [])) (plain 0 0 300) ≡ 0x2A ∷ 0x00 ∷ 0xFF ∷ 0xFF ∷ 0xFF ∷ 0x6A ∷ 0x00 ∷ 0x00 ∷ 0x10 ∷ 0x00 ∷ []
+-- ---- document 01's sheets that are marked *, in its order, as one list with one statement. What the byte layouts say of a sheet
+-- stands by name in mmc's `Bench`
+
+pub record StarredSheets : Type 0 where
+  -- "SAO, no flags, one data track of 300"
+  pub block : Layouts.Block
+  -- "Track count 0 or 100: 3. 1 and 99 pass."
+  pub counts : Layouts.Counts
+  -- "Length 299: 9. Length 300 passes.": at the sheet maker, and in a job
+  pub lengths : Layouts.Lengths
+  pub short-or-long : opened (order Tao (299 ∷ [])) (plain 0 0 299) ∷ opened (order Tao (300 ∷ [])) (plain 0 0 300) ∷ [] ≡ 9 ∷ 0 ∷ []
+  -- "S equal to Free Blocks passes; one more: 10."
+  pub room : opened (order Tao (300 ∷ 450 ∷ [])) (plain 1 0 750) ∷ opened (order Tao (300 ∷ 450 ∷ [])) (plain 1 0 749) ∷ [] ≡ 0 ∷ 10 ∷ []
+  -- "SAO with S 449,849 and room passes; 449,850: 10.": at the sheet maker, and in a job
+  pub lead-outs : Layouts.LeadOuts
+  pub last-lead-out : opened (order Sao (449849 ∷ [])) (plain 0 0 449850) ∷ opened (order Sao (449850 ∷ [])) (plain 0 0 449850) ∷ [] ≡ 0 ∷ 10 ∷ []
+  -- "Second TAO address equal to the previous end passes; one less: 7."
+  pub second-address : after 25 (order Tao (300 ∷ 317 ∷ [])) (plain 0 7 617) (plain 0 307 617) ∷ after 25 (order Tao (300 ∷ 317 ∷ [])) (plain 0 7 617) (plain 0 306 617) ∷ [] ≡ 0 ∷ 7 ∷ []
+  -- "Audio 300 and 450"
+  pub entries : Layouts.Entries
+  -- "TAO data, keep, protected: page starts 05 32 41 C4 08."
+  pub page-start : Layouts.PageStart
+  -- "-150 is 00:00:00, 0 is 00:02:00, 449,849 is 99:59:74; -151 is refused, 15."
+  pub times : Layouts.Times
+  -- "First SAO WRITE: 2A 00 FF FF FF 6A 00 00 10 00.": its maker, and in a job
+  pub first-write : Layouts.FirstWrite
+  pub write-given : bytesAfter 5 (order Sao (300 ∷ [])) (plain 0 0 300) ≡ 0x2A ∷ 0x00 ∷ 0xFF ∷ 0xFF ∷ 0xFF ∷ 0x6A ∷ 0x00 ∷ 0x00 ∷ 0x10 ∷ 0x00 ∷ []
+  -- "One track of 300: TAO 26 commands, SAO 35. TAO 300 and 317: 50."
+  pub command-counts : length (script (order Tao (300 ∷ []))) ∷ length (script (order Sao (300 ∷ []))) ∷ length (script (order Tao (300 ∷ 317 ∷ []))) ∷ [] ≡ 26 ∷ 35 ∷ 50 ∷ []
+
+-- ---- the rest of document 01's cases, which carry no mark
+
+pub record OtherSheets : Type 0 where
   -- 55h, 35h, 5Bh for the track and 5Bh for the session in a track at once; 5Dh in a session at once
   pub commands :
       bytesAfter 3 (order Tao (300 ∷ [])) (plain 0 0 300)
@@ -420,9 +433,6 @@ pub record BenchSheets : Type 0 where
       ∷ (0x5B ∷ 0 ∷ 2 ∷ 0 ∷ 0 ∷ 0 ∷ 0 ∷ 0 ∷ 0 ∷ 0 ∷ [])
       ∷ (0x5D ∷ 0 ∷ 0 ∷ 0 ∷ 0 ∷ 0 ∷ 0 ∷ 0 ∷ 32 ∷ 0 ∷ [])
       ∷ []
-  -- document 02's polling, and its erasing
-  pub polling : PollSheets
-  pub erasing : EraseSheets
   -- finalized disc and a 299-block track: 6
   pub finalized : opened (order Tao (299 ∷ [])) (plain 2 0 299) ≡ 6
   -- a session at once on an appendable disc: 6

@@ -12,6 +12,7 @@ use Rattle.mmc.specs.OrderBlock.{orderBlock}
 use Rattle.mmc.specs.declared.refusals.Refusal.the-variants.{FieldValue}
 use Rattle.mmc.proofs.refusals.Laws.{fills-of, fills-not}
 use Rattle.basics.proofs.Lists.{mapped-length}
+use Rattle.mmc.proofs.Bench.{layout-sheets, layout-cases}
 use Rattle.mmc.proofs.order_block.Rows.{block-put}
 use Rattle.mmc.proofs.order_block.Laws.{reads-back}
 use Rattle.mmc.proofs.order_block.write_order.Statement.{statement}
@@ -29,7 +30,7 @@ returns c =
     let v = c .before in
     let st = v .before .before in
     let f : validOrder (st .args .o) ≡ false = sym (v .is-valid .ensures) ∙ not-true (v .is-valid .result) (c .if1 .taken) in
-    record { filled = fills-not FieldValue (st .args .out .now) (simp f); reads-back = reads-back (st .args .o) (sized st) }
+    (record { filled = fills-not FieldValue (st .args .out .now) (simp f); reads-back = reads-back (st .args .o) (sized st) }, layout-sheets, layout-cases)
 
 slice-aggregate-put-body : tie.Need-slice-aggregate-put-body
 slice-aggregate-put-body c = search needs
@@ -64,7 +65,7 @@ returns-2 c =
     let o = st .args .o in
     let t : validOrder o ≡ true = sym (v .is-valid .ensures) ∙ not-false (v .is-valid .result) (e .if1 .left) in
     let b = k .put-check .ensures ∙ ap (λ (d : List ℕ). sealed (take 510 d)) (p .put-body .ensures) ∙ block-put o (sized st) (replicate 512 0) in
-    record { filled = fills-of (simp t (ap pass (sym b))) (f .fill .ensures); reads-back = reads-back o (sized st) }
+    (record { filled = fills-of (simp t (ap pass (sym b))) (f .fill .ensures); reads-back = reads-back o (sized st) }, layout-sheets, layout-cases)
 
 pub write-order-spec : {M : Type 1} → statement M
 write-order-spec =
