@@ -8,7 +8,7 @@ use lib.Dec.{eqb, leb}
 use Rattle.basics.specs.Bytes.{if, be32, bytes32, allZero}
 use Rattle.mmc.specs.Refusals.{Outcome, pass, refuse, checked, valueOr, Fills}
 use Rattle.mmc.specs.Block.{sealed, blockRead}
-use Rattle.mmc.specs.Order.{noOrder, validOrder}
+use Rattle.mmc.specs.Order.{mostTracks, noOrder, validOrder}
 use Rattle.mmc.specs.declared.order.Order.{Order}
 use Rattle.mmc.specs.declared.order.Track.{Track}
 use Rattle.mmc.specs.declared.order.Kind.{Kind}
@@ -99,7 +99,7 @@ fieldsOf b =
       immed = immedOf (getD b 2 0);
       erase = eraseOf (getD b 2 0);
       count = getD b 3 0;
-      tracks = tracksOf 99 (drop 4 b);
+      tracks = tracksOf mostTracks (drop 4 b);
     }
 
 -- byte 0, method and flags have listed values
@@ -108,7 +108,7 @@ headOk b = (eqb (getD b 0 0) 1 && leb 1 (getD b 1 0)) && (leb (getD b 1 0) lastM
 
 -- every field has a listed value, and "all else up to byte 509 is 0"
 unfoldable pub orderOk : List ℕ → Bool
-orderOk b = headOk b && (kindsOk 99 (drop 4 b) && (validOrder (fieldsOf b) && allZero (take 11 (drop 499 b))))
+orderOk b = headOk b && (kindsOk mostTracks (drop 4 b) && (validOrder (fieldsOf b) && allZero (take 11 (drop 499 b))))
 
 -- the order in a block
 unfoldable pub readOrder : List ℕ → Outcome Order

@@ -50,6 +50,9 @@ fn block_type(k: Kind) -> u8
     }
 }
 
+// The blocks of a pause before an audio track.
+const AUDIO_PAUSE: u8 = 150;
+
 // The 60 bytes of mode data for tracks of a kind.
 fn mode_bytes(o: Order, k: Kind) -> [u8; 60]
     ensures { λ r. ⌜ r ≡ modeBytes o k ⌝ }
@@ -61,7 +64,7 @@ fn mode_bytes(o: Order, k: Kind) -> [u8; 60]
     out[10] = protect_bits(o.protect) + write_type(m);
     out[11] = session_bits(o.keep) + track_mode(k);
     out[12] = block_type(k);
-    out[23] = 150;
+    out[23] = AUDIO_PAUSE;
     out
 }
 

@@ -247,8 +247,8 @@ abbrev pub twice : Reply → List Reply
 twice y = y ∷ y ∷ []
 
 -- the first byte of what a track at once of 300 blocks with the flag is given next
-abbrev pub dueIn : List Reply → ℕ
-dueIn ys = getD (givenIn (flagged (order Tao (300 ∷ []))) ys) 0 0xFF
+abbrev pub nextByte : List Reply → ℕ
+nextByte ys = getD (givenIn (flagged (order Tao (300 ∷ []))) ys) 0 0xFF
 
 -- the same with flag bit 2 too, from the good A1h on
 abbrev pub duePolled : List Reply → ℕ
@@ -282,8 +282,8 @@ pub record EraseSheets : Type 0 where
       ∷ []
   -- status 1 and 2 are erased, in TAO an appendable disc too, "though it could take the job"; a blank disc is not, "whatever its profile and
   -- Erasable"; nor is any without the flag, and its 51h is not judged: 52h comes whatever order, profile and status
-  pub used : dueIn (twice (rw 0x11)) ∷ dueIn (twice (rw 0x12)) ∷ [] ≡ 0xA1 ∷ 0xA1 ∷ []
-  pub blank : dueIn (twice (rw 0x10)) ∷ dueIn (twice (rw 0x00)) ∷ dueIn (twice (cd-r 0x10)) ∷ dueIn (twice (cd-r 0x00)) ∷ [] ≡ replicate 4 0x52
+  pub used : nextByte (twice (rw 0x11)) ∷ nextByte (twice (rw 0x12)) ∷ [] ≡ 0xA1 ∷ 0xA1 ∷ []
+  pub blank : nextByte (twice (rw 0x10)) ∷ nextByte (twice (rw 0x00)) ∷ nextByte (twice (cd-r 0x10)) ∷ nextByte (twice (cd-r 0x00)) ∷ [] ≡ replicate 4 0x52
   pub unflagged :
       take 1 (givenIn (order Tao (300 ∷ [])) (twice (rw 0x11)))
       ∷ take 1 (givenIn (order Sao (300 ∷ [])) (twice (rw 0x12)))
@@ -348,7 +348,7 @@ pub record EraseSheets : Type 0 where
       ≡ 4 ∷ 7 ∷ 7 ∷ 10 ∷ 10 ∷ 0 ∷ 7 ∷ 10 ∷ 0 ∷ 7 ∷ 10 ∷ []
   -- A1h: busy, the same again; failed, 12, not ready too
   pub erase-fails :
-      dueIn (rw 0x12 ∷ rw 0x12 ∷ unready 0x70 0x08 ∷ [])
+      nextByte (rw 0x12 ∷ rw 0x12 ∷ unready 0x70 0x08 ∷ [])
       ∷ wiping Tao (300 ∷ []) (rw 0x12 ∷ rw 0x12 ∷ unready 0x70 0x07 ∷ [])
       ∷ wiping Tao (300 ∷ []) (rw 0x12 ∷ rw 0x12 ∷ failed 14 0x70 0x05 0x20 0x00 ∷ [])
       ∷ []

@@ -30,7 +30,7 @@ use Rattle.recorder.specs.Answers.{Why, because, drive-failed, Ruling, i
 use Rattle.recorder.specs.Script.{gather, asksReady, isPoll, stepwise, write, Block, script, expected}
 use Rattle.recorder.specs.Replies.{ofDisc}
 use Rattle.recorder.specs.Exchanges.{Exchange, read, gathered, recorded, occupied, polling, progress, profile, disc, erased, unblank, Named, named}
-use Rattle.recorder.specs.Rules.{otherProfile, unsuitable, used, notErasable, none, found, refusal, ruled, exchanged, play, orderedIn, AllClosed}
+use Rattle.recorder.specs.Rules.{cdRw, finalized, otherProfile, unsuitable, used, notErasable, none, found, refusal, ruled, exchanged, play, orderedIn, AllClosed}
 use Rattle.recorder.specs.Job.{Next, nextIn, mostCommands, latestProgress, unchanged, validOf, idleRecorder, takeOf, giveOf}
 
 -- what the calls gave back since the order was taken: the last step; all answers, and the commands with the replies to them, the
@@ -154,11 +154,11 @@ pub record Recordable (o : Order) : Type 0 where
 pub record RightlyErased (o : Order) (p : ℕ) (d : DiscInformation) (before : Bool) : Type 0 where
   pub flagged : o .erase ≡ true
   pub recordable : Recordable o
-  pub cd-rw : p ≡ 0x000A
+  pub cd-rw : p ≡ cdRw
   pub passes-5 : otherProfile p ≡ false
   pub erasable : d .erasable ≡ true
   pub not-blank : 1 ≤ d .status
-  pub at-most-2 : d .status ≤ 2
+  pub at-most-2 : d .status ≤ finalized
   pub once : before ≡ false
 
 -- a command, given the exchanges before it
@@ -283,7 +283,7 @@ pub record Passing (o : Order) (p : ℕ) (d : DiscInformation) (rs : List Reply)
 
 -- with flag bit 3 all but status 3 and a used disc that can't be erased; without it what the method takes
 abbrev pub unfit : Order → ℕ → DiscInformation → Bool
-unfit o p d = if (o .erase) (ltb 2 (d .status) || notErasable p d) (unsuitable (o .method) (d .status))
+unfit o p d = if (o .erase) (ltb finalized (d .status) || notErasable p d) (unsuitable (o .method) (d .status))
 
 -- a disc that passes 5, 6 and 16
 pub record Suitable (o : Order) (p : ℕ) (d : DiscInformation) : Type 0 where

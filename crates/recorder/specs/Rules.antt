@@ -52,14 +52,31 @@ judgementIn (D.Failed s) = refused (drive-failed s)
 
 -- ---- the numbers 5, 6, 7, 10 and 16, of what was read; 8 and 9 are of the order alone (mmc's `Order`)
 
+-- "CD-R (profile 0009h) and CD-RW (000Ah)"
+abbrev pub cdR : ℕ
+cdR = 0x0009
+
+abbrev pub cdRw : ℕ
+cdRw = 0x000A
+
 -- 5: "the profile is neither 0009h nor 000Ah"
 unfoldable pub otherProfile : ℕ → Bool
-otherProfile p = not (eqb p 0x0009) && not (eqb p 0x000A)
+otherProfile p = not (eqb p cdR) && not (eqb p cdRw)
+
+-- a disc's status: "0 blank, 1 appendable, 2 finalized, 3 other"
+abbrev pub blank : ℕ
+blank = 0
+
+abbrev pub appendable : ℕ
+appendable = 1
+
+abbrev pub finalized : ℕ
+finalized = 2
 
 -- 6: "disc status unsuitable: TAO needs 0 or 1, SAO needs 0"
 abbrev pub lastStatus : Method → ℕ
-lastStatus Tao = 1
-lastStatus Sao = 0
+lastStatus Tao = appendable
+lastStatus Sao = blank
 
 unfoldable pub unsuitable : Method → ℕ → Bool
 unsuitable m status = ltb (lastStatus m) status
@@ -86,11 +103,11 @@ fits m s i = leb s (i .free .0) && leb (leadOut m s i) lastFrame
 
 -- "a disc of status 1 or 2"
 unfoldable pub used : ℕ → Bool
-used status = eqb status 1 || eqb status 2
+used status = eqb status appendable || eqb status finalized
 
 -- 16: "disc of status 1 or 2, and either profile not 000Ah or Erasable .. clear"
 unfoldable pub notErasable : ℕ → DiscInformation → Bool
-notErasable p d = used (d .status) && (not (eqb p 0x000A) || not (d .erasable))
+notErasable p d = used (d .status) && (not (eqb p cdRw) || not (d .erasable))
 
 -- ---- a reply to 51h, with flag bit 3
 
@@ -98,7 +115,7 @@ notErasable p d = used (d .status) && (not (eqb p 0x000A) || not (d .erasable))
 abbrev pub erasingTests : Order → ℕ → DiscInformation → List Test
 erasingTests o p d =
     test (otherProfile p) 5
-    ∷ test (ltb 2 (d .status)) 6
+    ∷ test (ltb finalized (d .status)) 6
     ∷ test (mixedOrKept o) 8
     ∷ test (shortTrack o) 9
     ∷ test (overlong o) 10
@@ -107,7 +124,7 @@ erasingTests o p d =
 
 -- "51h is asked anew and must say blank"
 abbrev pub blankTests : DiscInformation → List Test
-blankTests d = test (ltb 0 (d .status)) 6 ∷ []
+blankTests d = test (ltb blank (d .status)) 6 ∷ []
 
 -- with the flag by whether an erasing took place; without it 51h is not tested
 abbrev pub discTests : Bool → Order → Seen → DiscInformation → List Test

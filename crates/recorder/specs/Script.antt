@@ -112,7 +112,7 @@ portion l f = min (l - f) mostBlocks
 
 -- "length/16 rounded up"
 abbrev pub writesFor : ℕ → ℕ
-writesFor l = (l + 15) / 16
+writesFor l = (l + (mostBlocks - 1)) / mostBlocks
 
 -- k WRITEs of the piece t, of l blocks, from its block f on
 abbrev pub writes : ℕ → ℕ → ℕ → ℕ → List Op

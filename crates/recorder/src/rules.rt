@@ -38,6 +38,18 @@ pub(crate) enum Verdict {
     Failed(Sense),
 }
 
+// The profiles of a CD-R and a CD-RW.
+const CD_R: u16 = 0x0009;
+
+const CD_RW: u16 = 0x000A;
+
+// A disc's status; 3 is another one.
+const BLANK: u8 = 0;
+
+const APPENDABLE: u8 = 1;
+
+const FINALIZED: u8 = 2;
+
 // The frames before address 0.
 const LEAD_FRAMES: u64 = times::LEAD_FRAMES as u64;
 
@@ -48,10 +60,10 @@ pub(crate) const LAST_FRAME: u64 = (times::LAST_ADDRESS + times::LEAD_FRAMES) as
 fn other_profile(profile: u16) -> bool
     ensures { λ r. ⌜ r ≡ otherProfile profile ⌝ }
 {
-    if profile == 0x0009 {
+    if profile == CD_R {
         return false;
     }
-    profile != 0x000A
+    profile != CD_RW
 }
 
 // 6: the disc is not blank, in a track at once not appendable either.
@@ -59,8 +71,8 @@ fn unsuitable_status(m: Method, status: u8) -> bool
     ensures { λ r. ⌜ r ≡ unsuitable m status ⌝ }
 {
     match m {
-        Method::Tao => 1 < status,
-        Method::Sao => 0 < status,
+        Method::Tao => APPENDABLE < status,
+        Method::Sao => BLANK < status,
     }
 }
 
@@ -101,10 +113,10 @@ fn it_fits(m: Method, blocks: BlockSum, start: u64, i: TrackInformation) -> bool
 fn is_used(status: u8) -> bool
     ensures { λ r. ⌜ r ≡ used status ⌝ }
 {
-    if status == 1 {
+    if status == APPENDABLE {
         return true;
     }
-    status == 2
+    status == FINALIZED
 }
 
 // 16: a used disc that is no CD-RW, or not erasable.
@@ -114,7 +126,7 @@ fn not_erasable(profile: u16, d: DiscInformation) -> bool
     if !is_used(d.status) {
         return false;
     }
-    if profile != 0x000A {
+    if profile != CD_RW {
         return true;
     }
     !d.erasable
@@ -167,7 +179,7 @@ fn judge_used(o: Order, profile: u16, d: DiscInformation) -> Verdict
     let order = mixed_or_kept(o);
     let short = !all_long(o);
     let full = is_overlong(o);
-    let fault = first_of(other, 2 < d.status, false, order, short, full);
+    let fault = first_of(other, FINALIZED < d.status, false, order, short, full);
     let Verdict::Onward = fault else {
         return fault;
     };
@@ -185,7 +197,7 @@ fn judge_disc(o: Order, v: Seen, d: DiscInformation) -> Verdict
         return Verdict::Onward;
     }
     if v.erased {
-        return first_of(false, 0 < d.status, false, false, false, false);
+        return first_of(false, BLANK < d.status, false, false, false, false);
     }
     judge_used(o, v.profile, d)
 }
