@@ -201,6 +201,11 @@ mod tests {
             seal(&mut block);
             assert_eq!(read_order(&block), Err(Refusal::Field));
         }
+        // Count 0 with no rows: only the count is wrong.
+        let mut none = [0; BLOCK];
+        none[..2].copy_from_slice(&[1, 2]);
+        seal(&mut none);
+        assert_eq!(read_order(&none), Err(Refusal::Field));
         for count in [1, 99] {
             let block = order_block(&many(count)).unwrap();
             assert_eq!(read_order(&block), Ok(many(count)));

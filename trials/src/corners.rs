@@ -160,6 +160,7 @@ fn order_blocks(list: &mut List) {
         let name = format!("order-count-{value}");
         list.changed(&name, "stop 3 0", "order: a track count outside 1 to 99: 3", job, (0, 3, value));
     }
+    list.changed("order-count-0-no-rows", "stop 3 0", "order: track count 0 before empty rows: 3", &format!("order sao audio 0\n{OPEN}"), (0, 3, 0));
     list.changed("order-count-low", "stop 3 0", "order: a row beyond the count is not zero: 3", job, (0, 3, 1));
     list.changed("order-count-high", "stop 9 3", "order: rows of zeros are audio tracks of 0 blocks; 9 later", job, (0, 3, 9));
     list.changed("order-kind-first", "stop 3 0", "order: a kind that is neither 0 nor 1: 3", job, (0, 4, 2));

@@ -504,6 +504,13 @@ fn order_corners(list: &mut Vec<String>) {
             list.push(format!("order-write {lent} {words}"));
         }
     }
+    // Track counts 0 and 1 before empty rows: 3, and a track of no block.
+    for count in [0, 1] {
+        let mut block = [0; BLOCK];
+        block[..4].copy_from_slice(&[1, 2, 0, count]);
+        seal(&mut block);
+        list.push(format!("order-read {}", hex::plain(&block)));
+    }
     let order = Order {
         method: Method::Tao,
         flags: Flags {
