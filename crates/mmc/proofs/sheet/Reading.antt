@@ -12,7 +12,6 @@ use borrow.Author.Tests.{eqb-true, leb-true}
 use Rattle.basics.proofs.Tests.{both}
 use Rattle.mmc.specs.Order.{mostTracks}
 use Rattle.mmc.specs.Sheet.{sheetBytes, lengthIn, lengthsIn, noLength, sheetIn, sheetSize}
-use Rattle.mmc.specs.declared.units.BlockCount.{BlockCount}
 
 -- ---- an array of 99: its first i places hold the first i of a list of n, the rest what stands for none
 

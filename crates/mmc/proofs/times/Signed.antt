@@ -5,12 +5,11 @@ use native.Mathlib.Decide.{decLt}
 use mathlib.Core.Path.{_≡_, refl, sym, ap, _∙_}
 use mathlib.Core.Bool.{true, _&&_}
 use mathlib.Core.Logic.{_⊎_, inl, inr, ⊎-elim}
-use lib.IntN.{ℤ, pos, negsuc, _+ℤ_, _-ℤ_, natAbs, subℕ}
+use lib.IntN.{ℤ, pos, negsuc, _+ℤ_, natAbs, subℕ}
 use lib.Signed.{leZ}
 use borrow.Author.Tests.{le-ltb, lt-ltb, leb-true}
 use mir.Syntax.{w64}
-use mir.Val.{SFits, toZ, ofZ}
-use mir.Facts.{toZ-ofZ}
+use mir.Val.{SFits}
 use Rattle.mmc.specs.Times.{inRange, framesTo}
 use Rattle.mmc.specs.Commands.{twos}
 use Rattle.basics.proofs.Tests.{both}
