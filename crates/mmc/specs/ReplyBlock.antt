@@ -65,10 +65,10 @@ unfoldable pub readReply : List ℕ → Outcome Reply
 readReply b = blockRead b (replyOk b) (replyIn b)
 
 -- what a reader's answer says of the block: the mark and so many bytes from byte 4 on, or the number
-abbrev pub replyRead : List ℕ → ReplyRead → Outcome Reply
-replyRead b (Good n) = pass (record { good = true; bytes = take n (drop 4 b) })
-replyRead b (Failed n) = pass (record { good = false; bytes = take n (drop 4 b) })
-replyRead b (Refused r) = refuse (numberOf r)
+abbrev pub replyFound : List ℕ → ReplyRead → Outcome Reply
+replyFound b (Good n) = pass (record { good = true; bytes = take n (drop 4 b) })
+replyFound b (Failed n) = pass (record { good = false; bytes = take n (drop 4 b) })
+replyFound b (Refused r) = refuse (numberOf r)
 
 -- what the writer promises: the block, and that it reads back to the reply
 pub record WritesReply (x : Reply) (r : Made) (before after : List ℕ) : Type 0 where
@@ -77,5 +77,5 @@ pub record WritesReply (x : Reply) (r : Made) (before after : List ℕ) : Type 0
 
 -- what the reader promises: the reply, and that the block is the one that is written of it
 pub record ReadsReply (b : List ℕ) (r : ReplyRead) : Type 0 where
-  pub answer : replyRead b r ≡ readReply b
+  pub answer : replyFound b r ≡ readReply b
   pub written : (x : Reply) → readReply b ≡ pass x → replyBlock x ≡ pass b

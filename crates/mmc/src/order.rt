@@ -2,7 +2,7 @@
 ghost use mathlib.Core.Path.{_≡_};
 ghost use Prim.Native.Nat.{_≤_, _<_, min};
 ghost use lib.ListN.{drop};
-ghost use Rattle.mmc.specs.Order.{noTrack, isNone, allNone, noOrder, validOrder, tracksIn, sameKind, isSao, orderKind, allKind, allLong, blocksOf, keepsSao, mixedOrKept, overlong};
+ghost use Rattle.mmc.specs.Order.{mostTracks, noTrack, isNone, allNone, noOrder, validOrder, tracksIn, sameKind, isSao, orderKind, allKind, allLong, blocksOf, keepsSao, mixedOrKept, overlong};
 use crate::times::LAST_ADDRESS;
 use crate::units::BlockCount;
 use crate::units::BlockSum;
@@ -31,11 +31,14 @@ pub struct Order {
     pub immed: bool,
     pub erase: bool,
     pub count: u8,
-    pub tracks: [Track; 99],
+    pub tracks: [Track; ROWS],
 }
 
 // An order has so many tracks at most.
 pub const MOST_TRACKS: u8 = 99;
+
+// There is a row for each.
+pub const ROWS: usize = MOST_TRACKS as usize;
 
 // A track has so many blocks at least.
 const LEAST_BLOCKS: u64 = 300;
@@ -58,7 +61,7 @@ pub fn no_order() -> Order
     ensures { λ r. ⌜ r ≡ noOrder ⌝ }
 {
     let none = no_track();
-    let tracks = [none; 99];
+    let tracks = [none; ROWS];
     Order {
         method: Method::Tao,
         keep: false,
@@ -83,12 +86,12 @@ fn is_none(t: Track) -> bool
 
 // Whether no track stands past the order's count.
 fn rest_none(o: Order) -> bool
-    requires { ⌜ o .count ≤ 99 ⌝ }
+    requires { ⌜ o .count ≤ mostTracks ⌝ }
     ensures { λ r. ⌜ r ≡ allNone (drop (o .count) (o .tracks)) ⌝ }
 {
     let tracks = o.tracks;
     let mut i = o.count as usize;
-    while i < 99 {
+    while i < ROWS {
         if !is_none(tracks[i]) {
             return false;
         }
@@ -158,10 +161,10 @@ pub(crate) fn order_kind(o: Order) -> Kind
 
 // How many tracks there are, at most 99 in any case.
 pub(crate) fn track_count(o: Order) -> usize
-    ensures { λ r. ⌜ r ≡ min (o .count) 99 ⌝ }
+    ensures { λ r. ⌜ r ≡ min (o .count) mostTracks ⌝ }
 {
     let n = o.count as usize;
-    if 99 < n { 99 } else { n }
+    if ROWS < n { ROWS } else { n }
 }
 
 // Whether all tracks are of one kind.

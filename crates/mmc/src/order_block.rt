@@ -6,6 +6,7 @@ ghost use lib.ListN.{length, drop};
 ghost use Rattle.mmc.specs.Block.{blockFault};
 ghost use Rattle.basics.specs.Bytes.{putAt};
 ghost use Rattle.mmc.specs.Bench.{LayoutSheets, LayoutCases};
+ghost use Rattle.mmc.specs.Order.{mostTracks};
 ghost use Rattle.mmc.specs.OrderBlock.{methodOf, methodByte, kindOf, kindByte, flagsByte, headOk, kindsOk, trackOf, tracksOf, fieldsOf, orderOk, row, rows, orderBody, ReadsOrder, WritesOrder};
 use crate::block::check_block;
 use crate::block::put_check;
@@ -17,6 +18,7 @@ use crate::bytes::put;
 use crate::order::Kind;
 use crate::order::Method;
 use crate::order::Order;
+use crate::order::ROWS;
 use crate::order::Track;
 use crate::order::is_valid;
 use crate::order::no_order;
@@ -81,14 +83,14 @@ fn track_of(b: &[u8], at: usize) -> Track
 }
 
 // The tracks of all 99 rows.
-fn tracks_of(b: &[u8]) -> [Track; 99]
+fn tracks_of(b: &[u8]) -> [Track; ROWS]
     requires { ⌜ length (now b) ≡ 512 ⌝ }
-    ensures { λ r. ⌜ r ≡ tracksOf 99 (drop 4 (now (b .entry))) ⌝ }
+    ensures { λ r. ⌜ r ≡ tracksOf mostTracks (drop 4 (now (b .entry))) ⌝ }
 {
     let none = no_track();
-    let mut tracks = [none; 99];
+    let mut tracks = [none; ROWS];
     let mut i: usize = 0;
-    while i < 99 {
+    while i < ROWS {
         tracks[i] = track_of(b, 4 + 5 * i);
         i = i + 1;
     }
@@ -98,10 +100,10 @@ fn tracks_of(b: &[u8]) -> [Track; 99]
 // Whether each row's first byte is a kind's.
 fn kinds_ok(b: &[u8]) -> bool
     requires { ⌜ length (now b) ≡ 512 ⌝ }
-    ensures { λ r. ⌜ r ≡ kindsOk 99 (drop 4 (now (b .entry))) ⌝ }
+    ensures { λ r. ⌜ r ≡ kindsOk mostTracks (drop 4 (now (b .entry))) ⌝ }
 {
     let mut i: usize = 0;
-    while i < 99 {
+    while i < ROWS {
         if 1 < b[4 + 5 * i] {
             return false;
         }
@@ -221,7 +223,7 @@ fn put_rows(o: Order, out: &mut [u8])
 {
     let tracks = o.tracks;
     let mut i: usize = 0;
-    while i < 99 {
+    while i < ROWS {
         let one = row_of(tracks[i]);
         put(out, 4 + 5 * i, &one);
         i = i + 1;

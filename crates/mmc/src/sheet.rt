@@ -15,6 +15,7 @@ use crate::bytes::same;
 use crate::order::Kind;
 use crate::order::Method;
 use crate::order::Order;
+use crate::order::ROWS;
 use crate::order::Track;
 use crate::order::all_long;
 use crate::order::is_overlong;
@@ -39,7 +40,7 @@ use crate::units::TrackNumber;
 pub struct Sheet {
     pub kind: Kind,
     pub count: u8,
-    pub lengths: [BlockCount; 99],
+    pub lengths: [BlockCount; ROWS],
 }
 
 // The sheet where the check passed; where it did not, no sheet.
@@ -74,7 +75,7 @@ fn check_sheet(o: Order) -> Check
 // A cue sheet has so many bytes at least, of one track, and at most, of 99.
 const LEAST_BYTES: usize = 8 * (1 + 3);
 
-const MOST_BYTES: usize = 8 * (99 + 3);
+const MOST_BYTES: usize = 8 * (ROWS + 3);
 
 // Whether a cue sheet can have so many bytes: 8 for each of 4 to 102 entries.
 pub(crate) fn sheet_size(n: usize) -> bool
@@ -273,12 +274,12 @@ fn length_in(b: &[u8], at: usize) -> BlockCount
     past(ends, starts)
 }
 
-fn lengths_in(n: usize, b: &[u8]) -> [BlockCount; 99]
+fn lengths_in(n: usize, b: &[u8]) -> [BlockCount; ROWS]
     requires { ⌜ (n ≤ mostTracks) × (sheetBytes n ≤ length (now b)) ⌝ }
     ensures { λ r. ⌜ r ≡ lengthsIn n (drop 16 (now (b .entry))) ++ replicate (mostTracks - n) noLength ⌝ }
 {
     let none = BlockCount(0);
-    let mut lengths = [none; 99];
+    let mut lengths = [none; ROWS];
     let mut i: usize = 0;
     while i < n {
         lengths[i] = length_in(b, 16 + 8 * i);
@@ -303,12 +304,12 @@ fn sheet_in(b: &[u8]) -> Sheet
 }
 
 // The tracks of a kind with the first n of these lengths.
-fn tracks_for(kind: Kind, n: usize, lengths: [BlockCount; 99]) -> [Track; 99]
+fn tracks_for(kind: Kind, n: usize, lengths: [BlockCount; ROWS]) -> [Track; ROWS]
     requires { ⌜ n ≤ mostTracks ⌝ }
     ensures { λ r. ⌜ r ≡ map (trackFor kind) (take n lengths) ++ replicate (mostTracks - n) noTrack ⌝ }
 {
     let none = no_track();
-    let mut tracks = [none; 99];
+    let mut tracks = [none; ROWS];
     let mut i: usize = 0;
     while i < n {
         tracks[i] = Track {
@@ -365,7 +366,7 @@ fn no_sheet() -> SheetRead
         sheet: Sheet {
             kind: Kind::Audio,
             count: 0,
-            lengths: [none; 99],
+            lengths: [none; ROWS],
         },
     }
 }

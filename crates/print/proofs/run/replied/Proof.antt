@@ -1,7 +1,7 @@
 use borrow.Author.Needs.{needs}
 use mathlib.Core.Path.{sym, ap, _∙_}
 use mathlib.Core.Bool.{true, false}
-use Rattle.mmc.specs.ReplyBlock.{replyRead}
+use Rattle.mmc.specs.ReplyBlock.{replyFound}
 use Rattle.recorder.specs.Answers.{cdbOf}
 use Rattle.recorder.specs.Job.{giveOf}
 use Rattle.print.specs.Run.{repliedOf}
@@ -39,7 +39,7 @@ returns c =
     let g = d .before .before .read .given in
     let k = d .before .before .before .before in
     let a = k .before .before .args in
-    let e = ap (replyRead (a .block .now)) (sym (g .1)) ∙ k .read-reply .ensures .answer in
+    let e = ap (replyFound (a .block .now)) (sym (g .1)) ∙ k .read-reply .ensures .answer in
     c .give .ensures .step ∙ ap (giveOf (a .state) true) (d .reply-data .ensures ∙ data-part true (a .block .now) (g .0 .0) (k .read-reply .ensures .written _ (sym e))) ∙ ap (repliedOf (a .state)) e
 
 returns-2 : tie.Need-returns-2
@@ -48,7 +48,7 @@ returns-2 c =
     let g = d .before .before .read2 .given in
     let k = d .before .before .before .before in
     let a = k .before .before .args in
-    let e = ap (replyRead (a .block .now)) (sym (g .1)) ∙ k .read-reply .ensures .answer in
+    let e = ap (replyFound (a .block .now)) (sym (g .1)) ∙ k .read-reply .ensures .answer in
     c .give2 .ensures .step ∙ ap (giveOf (a .state) false) (d .reply-data2 .ensures ∙ data-part false (a .block .now) (g .0 .0) (k .read-reply .ensures .written _ (sym e))) ∙ ap (repliedOf (a .state)) e
 
 returns-3 : tie.Need-returns-3
@@ -56,7 +56,7 @@ unfolding cdbOf
 returns-3 c =
     let k = c .before .before .before in
     let a = k .before .before .args in
-    ap (repliedOf (a .state)) (ap (replyRead (a .block .now)) (sym (c .before .read3 .given .1)) ∙ k .read-reply .ensures .answer)
+    ap (repliedOf (a .state)) (ap (replyFound (a .block .now)) (sym (c .before .read3 .given .1)) ∙ k .read-reply .ensures .answer)
 
 pub replied-spec : {M : Type 1} → statement M
 replied-spec =

@@ -3,7 +3,7 @@ use mathlib.Core.Path.{sym, ap, _∙_}
 use mathlib.Core.Bool.{true, false}
 use mathlib.Core.List.{List}
 use Prim.Native.Nat.{ℕ}
-use Rattle.mmc.specs.ReplyBlock.{replyRead}
+use Rattle.mmc.specs.ReplyBlock.{replyFound}
 use Rattle.recorder.specs.Job.{giveOf}
 use Rattle.watch.specs.Watch.{repliedOf}
 use Rattle.watch.proofs.stage.Laws.{same-recorder, same-stage, data-part}
@@ -18,7 +18,7 @@ returns c =
     let g = d .before .before .read .given in
     let k = d .before .before .before .before in
     let a = k .before .before .before .args in
-    let e = ap (replyRead (a .block .now)) (sym (g .1)) ∙ k .read-reply .ensures .answer in
+    let e = ap (replyFound (a .block .now)) (sym (g .1)) ∙ k .read-reply .ensures .answer in
     let f = d .reply-data .ensures ∙ data-part true (a .block .now) (g .0 .0) (k .read-reply .ensures .written _ (sym e)) in
     same-stage (ap (repliedOf (a .r)) e) (same-recorder (m .moved-on .ensures ∙ ap (λ (y : List ℕ). giveOf (a .r) true y .state) f) (w .show .ensures))
 
@@ -30,7 +30,7 @@ returns-2 c =
     let g = d .before .before .read2 .given in
     let k = d .before .before .before .before in
     let a = k .before .before .before .args in
-    let e = ap (replyRead (a .block .now)) (sym (g .1)) ∙ k .read-reply .ensures .answer in
+    let e = ap (replyFound (a .block .now)) (sym (g .1)) ∙ k .read-reply .ensures .answer in
     let f = d .reply-data2 .ensures ∙ data-part false (a .block .now) (g .0 .0) (k .read-reply .ensures .written _ (sym e)) in
     same-stage (ap (repliedOf (a .r)) e) (same-recorder (m .moved-on2 .ensures ∙ ap (λ (y : List ℕ). giveOf (a .r) false y .state) f) (w .show2 .ensures))
 
@@ -39,7 +39,7 @@ returns-3 c =
     let w = c .before .before in
     let k = w .before .before .before .before .before in
     let a = k .before .before .before .args in
-    same-stage (ap (repliedOf (a .r)) (ap (replyRead (a .block .now)) (sym (w .before .before .before .read3 .given .1)) ∙ k .read-reply .ensures .answer)) (w .refuse-block .ensures)
+    same-stage (ap (repliedOf (a .r)) (ap (replyFound (a .block .now)) (sym (w .before .before .before .read3 .given .1)) ∙ k .read-reply .ensures .answer)) (w .refuse-block .ensures)
 
 pub reply-spec : {M : Type 1} → statement M
 reply-spec =
