@@ -1,10 +1,10 @@
 -- Laws on bytes, and on the tests over them.
 use mathlib.Core.Path.{_≡_, refl, sym, ap, _∙_}
 use mathlib.Core.List.{List, [], _∷_, _++_}
-use mathlib.Core.Bool.{true, _&&_}
+use mathlib.Core.Bool.{Bool, true, false, _&&_}
 use Prim.Native.Nat.{ℕ, suc, zero, _+_, _*_, _/_, _%_, _≤_, _<_}
 use native.Mathlib.Omega.{arith}
-use borrow.Author.Tests.{eq-eqb, eqb-true}
+use borrow.Author.Tests.{eq-eqb, ne-eqb, eqb-true}
 use lib.Dec.{eqb}
 use lib.ListN.{length, getD, take, drop, replicate, drop-of-length-le, length-append}
 use lib.Seq.{drop-drop, take-at, drop-at, length-take-le}
@@ -22,13 +22,27 @@ pub sum-end : (s : List ℕ) (i : ℕ) → length s ≤ i → sumOf (drop i s) �
 unfolding sumOf
 sum-end s i h = ap sumOf (drop-of-length-le s h)
 
-pub zero-next : (s : List ℕ) (i : ℕ) → i < length s → allZero (drop i s) ≡ (eqb (getD s i 0) 0 && allZero (drop (i + 1) s))
+pub sum-append : (s t : List ℕ) → sumOf (s ++ t) ≡ sumOf s + sumOf t
+unfolding sumOf
+sum-append [] t = omega arith
+sum-append (x ∷ s) t = omega (arith, sum-append s t)
+
+zero-next : (s : List ℕ) (i : ℕ) → i < length s → allZero (drop i s) ≡ (eqb (getD s i 0) 0 && allZero (drop (i + 1) s))
 unfolding allZero
 zero-next s i h = ap allZero (drop-next s i h)
 
-pub zero-end : (s : List ℕ) (i : ℕ) → length s ≤ i → allZero (drop i s) ≡ true
+-- a test for zeros that has come to i: the byte there is 0, or it isn't, or no byte is left
+pub zero-on : (s : List ℕ) (i : ℕ) (so : Bool) → i < length s → getD s i 0 ≡ 0 → (so && allZero (drop (i + 1) s)) ≡ (so && allZero (drop i s))
+zero-on s i so h e = rw (zero-next s i h, eq-eqb _ _ e) refl
+
+pub zero-off : (s : List ℕ) (i : ℕ) (so : Bool) → i < length s → (getD s i 0 ≡ 0 → ⊥) → false ≡ (so && allZero (drop i s))
+zero-off s i true h n = sym (zero-next s i h ∙ simp (ne-eqb _ _ n))
+zero-off s i false h n = refl
+
+pub zero-end : (s : List ℕ) (i : ℕ) (so : Bool) → length s ≤ i → so ≡ (so && allZero (drop i s))
 unfolding allZero
-zero-end s i h = ap allZero (drop-of-length-le s h)
+zero-end s i true h = sym (ap allZero (drop-of-length-le s h))
+zero-end s i false h = refl
 
 pub same-next : (s t : List ℕ) (i : ℕ) → i < length s → length s ≡ length t → sameBytes (drop i s) (drop i t) ≡ (eqb (getD s i 0) (getD t i 0) && sameBytes (drop (i + 1) s) (drop (i + 1) t))
 unfolding sameBytes
@@ -65,6 +79,11 @@ pub zeros-zero : (n : ℕ) → allZero (replicate n 0) ≡ true
 unfolding allZero
 zeros-zero zero = refl
 zeros-zero (suc n) = zeros-zero n
+
+pub zeros-sum : (x : List ℕ) → allZero x ≡ true → sumOf x ≡ 0
+unfolding allZero sumOf
+zeros-sum [] e = refl
+zeros-sum (a ∷ x) e = let s = both (eqb a 0) (allZero x) e in omega (arith, eqb-true a 0 (s .0), zeros-sum x (s .1))
 
 -- ---- numbers in bytes
 

@@ -49,18 +49,19 @@ pub(crate) fn byte_sum(s: &[u8]) -> u32
     sum
 }
 
-// Whether every byte is 0.
+// Whether every byte is 0. It looks at all of them: a loop that ends at the first other byte can't take many bytes at a time.
 pub(crate) fn all_zero(s: &[u8]) -> bool
     ensures { λ r. ⌜ r ≡ allZero (now (s .entry)) ⌝ }
 {
+    let mut zero = true;
     let mut i: usize = 0;
     while i < s.len() {
         if s[i] != 0 {
-            return false;
+            zero = false;
         }
         i = i + 1;
     }
-    true
+    zero
 }
 
 // Whether two runs of bytes of one length are equal.

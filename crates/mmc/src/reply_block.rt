@@ -1,12 +1,12 @@
 // The reply block: 512 bytes that hold a good or failed mark and the drive's data.
 ghost use mathlib.Core.Path.{_≡_};
 ghost use mathlib.Core.List.{_++_};
-ghost use Prim.Native.Nat.{_+_, _≤_};
-ghost use lib.ListN.{length, drop};
+ghost use Prim.Native.Nat.{_+_, _-_, _≤_, min};
+ghost use lib.ListN.{length, take, drop};
 ghost use Rattle.mmc.specs.Block.{blockFault};
-ghost use Rattle.basics.specs.Bytes.{partOf};
-ghost use Rattle.mmc.specs.ReplyBlock.{replyOf, dataLength, replyOk, statusByte, replyHead, ReadsReply, WritesReply};
-use crate::block::check_block;
+ghost use Rattle.basics.specs.Bytes.{if, allZero, partOf};
+ghost use Rattle.mmc.specs.ReplyBlock.{replyOf, mostData, dataLength, replyOk, statusByte, replyHead, ReadsReply, WritesReply};
+use crate::block::check_first;
 use crate::block::put_check;
 use crate::bytes::all_zero;
 use crate::bytes::fill;
@@ -34,9 +34,25 @@ fn data_length(b: &[u8]) -> usize
     number16(&b[2..]) as usize
 }
 
-// Whether every field holds a listed value, and all behind the data is 0.
-fn reply_ok(b: &[u8]) -> bool
+// Where the data ends that a block says it holds; where it says too much, behind byte 509.
+fn data_end(b: &[u8]) -> usize
     requires { ⌜ length (now b) ≡ 512 ⌝ }
+    ensures { λ r. ⌜ r ≡ min (4 + dataLength (now (b .entry))) 510 ⌝ }
+{
+    let end = 4 + data_length(b);
+    if end < 510 { end } else { 510 }
+}
+
+// How many bytes are to be summed: those up to the data's end where only zeros follow, else bytes 0 to 509.
+fn filled(end: usize, zero: bool) -> usize
+    ensures { λ r. ⌜ r ≡ if zero end 510 ⌝ }
+{
+    if zero { end } else { 510 }
+}
+
+// Whether every field holds a listed value, and all behind the data is 0.
+fn reply_ok(b: &[u8], zero: bool) -> bool
+    requires { ⌜ (length (now b) ≡ 512) × (zero ≡ allZero (take (mostData - dataLength (now b)) (drop (4 + dataLength (now b)) (now b)))) ⌝ }
     ensures { λ r. ⌜ r ≡ replyOk (now (b .entry)) ⌝ }
 {
     if b[0] != 2 {
@@ -45,20 +61,18 @@ fn reply_ok(b: &[u8]) -> bool
     if 1 < b[1] {
         return false;
     }
-    let n = data_length(b);
-    if MOST_DATA < n {
+    if MOST_DATA < data_length(b) {
         return false;
     }
-    let end = 4 + n;
-    all_zero(&b[end..510])
+    zero
 }
 
 // A reply block whose length and check are right: 3, or the reply.
-fn read_fields(b: &[u8]) -> ReplyRead
-    requires { ⌜ blockFault (now b) ≡ 0 ⌝ }
+fn read_fields(b: &[u8], zero: bool) -> ReplyRead
+    requires { ⌜ (blockFault (now b) ≡ 0) × (zero ≡ allZero (take (mostData - dataLength (now b)) (drop (4 + dataLength (now b)) (now b)))) ⌝ }
     ensures { λ r. ⌜ ReadsReply (now (b .entry)) r ⌝ }
 {
-    if !reply_ok(b) {
+    if !reply_ok(b, zero) {
         return ReplyRead::Refused(Refusal::FieldValue);
     }
     let n = data_length(b);
@@ -69,14 +83,19 @@ fn read_fields(b: &[u8]) -> ReplyRead
     }
 }
 
-// Reads a reply block: 1, 2 and 3.
+// Reads a reply block: 1, 2 and 3. What stands behind the data is looked at first: zeros need not be summed.
 pub fn read_reply(b: &[u8]) -> ReplyRead
     ensures { λ r. ⌜ ReadsReply (now (b .entry)) r ⌝ }
 {
-    let check = check_block(b);
+    if b.len() != 512 {
+        return ReplyRead::Refused(Refusal::BlockLength);
+    }
+    let end = data_end(b);
+    let zero = all_zero(&b[end..510]);
+    let check = check_first(b, filled(end, zero));
     match check {
         Check::Refused(r) => ReplyRead::Refused(r),
-        Check::Passed => read_fields(b),
+        Check::Passed => read_fields(b, zero),
     }
 }
 

@@ -12,11 +12,11 @@ use Rattle.recorder.specs.Rules.{otherProfile, unsuitable}
 use Rattle.recorder.specs.Job.{inOrder, standsIn, takeOf, giveOf}
 use Rattle.lines.specs.Text.{codes, parted, leading, decimal}
 use Rattle.lines.specs.Lines.{commandLine, countedLine, waitingLine, stopText, stopLine, failedLine}
-use Rattle.print.specs.Run.{cut, blocksOf, fed, begunWith}
+use Rattle.print.specs.Run.{cut, inputBlocks, fed, begunWith}
 use Rattle.print.specs.Bench.{ExampleTexts}
 
 pub example-texts : ExampleTexts
-unfolding bytes32 be32 sumOf allZero bufferOf checkSum sealed blockFault blockRead allNone validOrder methodOf keepOf protectOf row rows orderBody orderBytes trackOf tracksOf kindsOk fieldsOf headOk orderOk readOrder replyHead replyBody replyBytes replyOk replyIn readReply hasSense senseOf longWrite isBusy readFailed wholeProfile readProfile wholeDisc discOf readDisc wholeInformation readInformation cdbOf otherProfile unsuitable inOrder standsIn takeOf giveOf codes parted leading decimal commandLine countedLine waitingLine stopText stopLine failedLine cut blocksOf fed begunWith eraseOf
+unfolding bytes32 be32 sumOf allZero bufferOf checkSum sealed blockFault blockRead allNone validOrder methodOf keepOf protectOf row rows orderBody orderBytes trackOf tracksOf kindsOk fieldsOf headOk orderOk readOrder replyHead replyBody replyBytes replyOk replyIn readReply hasSense senseOf longWrite isBusy readFailed wholeProfile readProfile wholeDisc discOf readDisc wholeInformation readInformation cdbOf otherProfile unsuitable inOrder standsIn takeOf giveOf codes parted leading decimal commandLine countedLine waitingLine stopText stopLine failedLine cut inputBlocks fed begunWith eraseOf
 example-texts =
     record {
       finalized = refl;

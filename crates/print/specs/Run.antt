@@ -1,6 +1,6 @@
 -- The print program: the text that an input leads to.
 use mathlib.Core.Path.{_≡_}
-use mathlib.Core.Bool.{Bool, true, false}
+use mathlib.Core.Bool.{Bool, true, false, _&&_}
 use mathlib.Core.List.{List, [], _∷_, _++_}
 use mathlib.Core.Logic.{_⊎_}
 use Prim.Native.Nat.{ℕ, zero, suc, _+_, _*_, _/_, _%_, _≤_, _<_}
@@ -14,9 +14,11 @@ use Rattle.recorder.specs.Answers.{Ruling, issue, done, stop}
 use Rattle.recorder.specs.Job.{Next, unchanged, takeOf, giveOf}
 use Rattle.recorder.specs.declared.answers.Cdb.{Cdb}
 use Rattle.recorder.specs.declared.job.Recorder.{Recorder}
+use Rattle.lines.specs.Text.{codes}
 use Rattle.lines.specs.Lines.{longest, lineOf, waitingLine}
 use Rattle.print.specs.declared.run.Run.{Run}
 use Rattle.print.specs.declared.run.Line.{Line}
+use Rattle.print.specs.declared.Sent.{Sent}
 
 -- ---- one block
 
@@ -58,8 +60,8 @@ cut (suc k) [] = []
 cut (suc k) (x ∷ s) = take 512 (x ∷ s) ∷ cut k (drop 512 (x ∷ s))
 
 -- no input has more blocks than bytes
-unfoldable pub blocksOf : List ℕ → List (List ℕ)
-blocksOf s = cut (length s) s
+unfoldable pub inputBlocks : List ℕ → List (List ℕ)
+inputBlocks s = cut (length s) s
 
 -- reply blocks one after another; "Later blocks are not read."
 unfoldable pub fed : Stage → List (List ℕ) → Stage
@@ -68,7 +70,7 @@ fed g (b ∷ bs) = if (g .waiting) (fed (repliedTo g b) bs) g
 
 -- an order block and the reply blocks behind it
 unfoldable pub begunWith : List ℕ → Stage
-begunWith s = fed (answeredOf (takeOf (take 512 s)) []) (blocksOf (drop 512 s))
+begunWith s = fed (answeredOf (takeOf (take 512 s)) []) (inputBlocks (drop 512 s))
 
 -- "`waiting N` where replies run out"
 abbrev pub waitingFor : Recorder → Stage
@@ -91,24 +93,37 @@ awaiting r = record { state = r; waiting = true; text = [] }
 -- where the next read leads; one of no bytes says that the input has ended
 abbrev pub readOn : Recorder → List ℕ → Stage
 readOn r [] = waitingFor r
-readOn r (x ∷ s) = fed (awaiting r) (blocksOf (x ∷ s))
+readOn r (x ∷ s) = fed (awaiting r) (inputBlocks (x ∷ s))
 
 -- the text still to come, if these bytes are all that is left of the input
 abbrev pub following : Recorder → List ℕ → List ℕ
-following r s = ending (fed (awaiting r) (blocksOf s))
+following r s = ending (fed (awaiting r) (inputBlocks s))
 
 -- a read brings whole blocks, at least one, or all that is left of the input, so that no byte comes after it
 abbrev pub Brings : List ℕ → List ℕ → Type 0
 Brings s t = ((0 < length s) × (length s % 512 ≡ 0)) ⊎ (t ≡ [])
 
--- a run that stands at a stage, once its text is written out
-abbrev pub writtenOut : Stage → Run
-writtenOut g = record { state = g .state; waiting = g .waiting; used = 0 }
+-- a read, and whether the output took all the text that it led to
+pub record Read : Type 0 where
+  pub bytes : List ℕ
+  pub out : Bool
+
+-- a run that stands at a stage, once its text is written, and whether the output took all of it
+abbrev pub sentAt : Stage → Bool → Sent
+sentAt g out = record { run = record { state = g .state; waiting = g .waiting; used = 0 }; out = out }
+
+-- the program reads on where a reply is awaited, unless the output could not be written
+abbrev pub readsOn : Sent → Bool
+readsOn s = s .out && s .run .waiting
 
 -- a run after later reads, the latest first
-unfoldable pub afterReads : Run → List (List ℕ) → Run
-afterReads r [] = r
-afterReads r (s ∷ ss) = if (afterReads r ss .waiting) (writtenOut (readOn (afterReads r ss .state) s)) (afterReads r ss)
+unfoldable pub afterReads : Sent → List Read → Sent
+afterReads s [] = s
+afterReads s (r ∷ rs) = if (readsOn (afterReads s rs)) (sentAt (readOn (afterReads s rs .run .state) (r .bytes)) (r .out)) (afterReads s rs)
+
+-- what standard error is told, once and at the end, where the output could not be written; nothing else is
+abbrev pub complaint : List ℕ
+complaint = codes "print: the output could not be written\n"
 
 -- ---- the contracts
 
@@ -152,14 +167,14 @@ pub record ReadsRest (n : ℕ) (before : List ℕ) (r : ℕ) (after : List ℕ) 
   pub to : r < n + 512
   pub room : r ≤ length after
 
--- what is promised of the writing of a run's text: the run as it was, with no text left to write
-pub record Sends (run r : Run) : Type 0 where
-  pub state : r .state ≡ run .state
-  pub waiting : r .waiting ≡ run .waiting
-  pub used : r .used ≡ 0
+-- what is promised of the writing of a run's text: the run as it was, with no text left to write; the output alone decides on `out`
+pub record Sends (run : Run) (s : Sent) : Type 0 where
+  pub state : s .run .state ≡ run .state
+  pub waiting : s .run .waiting ≡ run .waiting
+  pub used : s .run .used ≡ 0
 
--- what is promised of the loop: it reads on until no reply is awaited, or 2^64 - 1 times
-pub record Finishes (before after : Run) : Type 0 where
-  pub reads : List (List ℕ)
-  pub run : after ≡ afterReads before reads
-  pub ended : length reads < 18446744073709551615 → after .waiting ≡ false
+-- what is promised of the loop: it reads on until no reply is awaited or the output could not be written, or 2^64 - 1 times
+pub record Finishes (before after : Sent) : Type 0 where
+  pub reads : List Read
+  pub sent : after ≡ afterReads before reads
+  pub ended : length reads < 18446744073709551615 → readsOn after ≡ false

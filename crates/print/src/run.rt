@@ -6,7 +6,7 @@ ghost use lib.ListN.{length};
 ghost use Rattle.mmc.specs.ReplyBlock.{readReply};
 ghost use Rattle.recorder.specs.Answers.{said};
 ghost use Rattle.recorder.specs.Job.{nextIn};
-ghost use Rattle.print.specs.Run.{writtenBy, waits, repliedOf, repliedTo, blocksOf, fed, waitingFor, stageIn, AddsLine, roomFor, Reaches, Begins, GoesOn};
+ghost use Rattle.print.specs.Run.{writtenBy, waits, repliedOf, repliedTo, inputBlocks, fed, waitingFor, stageIn, AddsLine, roomFor, Reaches, Begins, GoesOn};
 use mmc::refusals::Made;
 use mmc::reply_block::ReplyRead;
 use mmc::reply_block::read_reply;
@@ -113,7 +113,7 @@ fn block_end(length: usize, at: usize) -> usize
 // The reply blocks of a read, until the run ends.
 fn feed(run: Run, input: &[u8], text: &mut [u8]) -> Run
     requires { ⌜ run .used + roomFor (length (now input)) ≤ length (now text) ⌝ }
-    ensures { λ r. ⌜ Reaches (fed (stageIn run (now (text .entry))) (blocksOf (now (input .entry)))) (length (now (text .entry))) r (now (text .exit)) ⌝ }
+    ensures { λ r. ⌜ Reaches (fed (stageIn run (now (text .entry))) (inputBlocks (now (input .entry)))) (length (now (text .entry))) r (now (text .exit)) ⌝ }
 {
     let mut current = run;
     let mut at: usize = 0;

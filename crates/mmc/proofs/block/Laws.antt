@@ -2,23 +2,34 @@
 use mathlib.Core.Path.{_≡_, refl, sym, ap, _∙_}
 use mathlib.Core.List.{List, [], _∷_, _++_, append-nil}
 use mathlib.Core.Bool.{Bool, true, false}
-use Prim.Native.Nat.{ℕ, _*_, _+_, _/_, _%_}
+use Prim.Native.Nat.{ℕ, _*_, _+_, _-_, _/_, _%_, _≤_}
 use native.Mathlib.Omega.{arith}
-use borrow.Author.Tests.{eq-eqb, eqb-true}
+use borrow.Author.Tests.{eq-eqb, ne-eqb, eqb-true}
 use lib.Dec.{eqb}
 use lib.ListN.{length, getD, take, drop, take-append-drop, length-append, drop-of-length-le}
-use lib.Seq.{take-at, drop-at, drop-cons}
-use Rattle.basics.specs.Bytes.{if, be16, bytes16, sumOf, putAt}
+use lib.Seq.{take-at, drop-at, drop-cons, take-add}
+use Rattle.basics.specs.Bytes.{if, be16, bytes16, sumOf, allZero, putAt}
 use Rattle.mmc.specs.Refusals.{pass, refuse, numberOf}
 use Rattle.mmc.specs.Block.{checkSum, sealed, blockFault, blockRead}
 use Rattle.mmc.specs.declared.refusals.Refusal.{Refusal}
 use Rattle.mmc.proofs.refusals.Laws.{numbered}
 use Rattle.basics.proofs.Tests.{if-zero}
-use Rattle.basics.proofs.Bytes.{Bytes}
+use Rattle.basics.proofs.Bytes.{sum-append, zeros-sum, Bytes}
 
 pub fault-length : (b : List ℕ) → blockFault b ≡ 0 → length b ≡ 512
 unfolding blockFault
 fault-length b e = eqb-true (length b) 512 (if-zero (eqb (length b) 512) _ 1 (omega arith) e)
+
+pub wrong-length : (b : List ℕ) → (length b ≡ 512 → ⊥) → blockFault b ≡ 1
+unfolding blockFault
+wrong-length b n = simp (ne-eqb _ _ n)
+
+-- zeros behind the first n of bytes 0 to 509 add nothing to their sum
+pub sum-first : (b : List ℕ) (n : ℕ) → n ≤ 510 → allZero (take (510 - n) (drop n b)) ≡ true → sumOf (take n b) ≡ sumOf (take 510 b)
+sum-first b n h z =
+    let e : n + (510 - n) ≡ 510 = omega arith in
+    let t : take 510 b ≡ take n b ++ take (510 - n) (drop n b) = ap (λ (k : ℕ). take k b) (sym e) ∙ take-add n (510 - n) b in
+    omega (arith, ap sumOf t, sum-append (take n b) (take (510 - n) (drop n b)), zeros-sum (take (510 - n) (drop n b)) z)
 
 -- the check, put behind bytes 0 to 509
 pub check-put : (d : List ℕ) (sum : ℕ) → length d ≡ 512 → sum ≡ sumOf (take 510 d) → putAt d 510 (bytes16 (sum % 65536)) ≡ sealed (take 510 d)

@@ -2,13 +2,15 @@
 use mathlib.Core.Path.{_≡_, refl, sym, ap, _∙_}
 use mathlib.Core.List.{List, [], _∷_, _++_, append-assoc}
 use mathlib.Core.Bool.{Bool, true, false, _&&_}
-use Prim.Native.Nat.{ℕ, zero, suc, _+_, _*_, _-_, _/_, _%_, _≤_}
+use Prim.Native.Nat.{ℕ, zero, suc, _+_, _*_, _-_, _/_, _%_, _≤_, min}
+use native.Mathlib.Decide.{decLe}
+use native.Mathlib.Nat.{min-eq-left, min-eq-right}
 use native.Mathlib.Omega.{arith}
 use borrow.Author.Tests.{eqb-true, leb-true, le-leb}
 use lib.Dec.{eqb, leb}
 use lib.ListN.{length, getD, take, drop, replicate, length-append, length-drop}
 use lib.Seq.{take-at, drop-at, take-add, drop-drop, length-take-le}
-use Rattle.basics.specs.Bytes.{bytes16, allZero}
+use Rattle.basics.specs.Bytes.{if, bytes16, allZero}
 use Rattle.mmc.specs.Refusals.{pass, refuse}
 use Rattle.mmc.specs.Block.{sealed, checkSum, blockFault}
 use Rattle.mmc.specs.ReplyBlock.{Reply, statusByte, replyHead, replyBody, replyBytes, replyBlock, dataLength, replyOk, replyIn, readReply}
@@ -131,6 +133,30 @@ body-is (a ∷ s ∷ h ∷ l ∷ r) u n f =
     let hi : k / 256 ≡ h = omega (arith, u 3) in
     let lo : k % 256 ≡ l = omega (arith, u 3) in
     (rw (len, hi, lo, t, eqb-true a 2 (p .0), status-is s (omega (arith, leb-true s _ (q .0)))), omega (arith, len))
+
+-- ---- the zeros behind the data
+
+-- up to byte 509, also where a block says that it holds too much
+pub behind : (b : List ℕ) (e : ℕ) → e ≡ min (4 + dataLength b) 510 → take (510 - e) (drop e b) ≡ take (506 - dataLength b) (drop (4 + dataLength b) b)
+behind b e p = of (decLe (4 + dataLength b) 510)
+  where
+    of : Dec (4 + dataLength b ≤ 510) → take (510 - e) (drop e b) ≡ take (506 - dataLength b) (drop (4 + dataLength b) b)
+    of (yes h) =
+        let f : e ≡ 4 + dataLength b = p ∙ min-eq-left h in
+        let g : 510 - e ≡ 506 - dataLength b = omega arith in
+        rw (g, f)
+    of (no h) =
+        let k : 510 ≤ 4 + dataLength b = omega arith in
+        let f : e ≡ 510 = p ∙ min-eq-right k in
+        let g : 510 - e ≡ 0 = omega arith in
+        let z : 506 - dataLength b ≡ 0 = omega arith in
+        rw (g, z)
+
+-- only zeros stand behind the bytes that are summed
+pub summed : (b : List ℕ) (e n : ℕ) (so : Bool) → e ≤ 510 → so ≡ allZero (take (510 - e) (drop e b)) → n ≡ if so e 510 → (n ≤ 510) × (allZero (take (510 - n) (drop n b)) ≡ true)
+unfolding allZero
+summed b e n true h z p = (omega arith, rw p (sym z))
+summed b e n false h z p = (omega arith, rw p refl)
 
 -- every block that is read is the one that is written of the reply read
 pub written : (b : List ℕ) → Bytes b → (x : Reply) → readReply b ≡ pass x → replyBlock x ≡ pass b

@@ -20,7 +20,7 @@ use Rattle.mmc.specs.declared.refusals.Made.the-variants as M
 use Rattle.recorder.specs.Job.{Next, takeOf}
 use Rattle.recorder.specs.declared.job.Recorder.{Recorder}
 use Rattle.lines.specs.Lines.{longest, Writes}
-use Rattle.print.specs.Run.{writtenBy, Stage, answeredOf, repliedTo, cut, blocksOf, fed, begunWith, waitingFor, ending, printed, awaiting, readOn, following, stageIn, roomFor, Reaches, Begins, GoesOn}
+use Rattle.print.specs.Run.{writtenBy, Stage, answeredOf, repliedTo, cut, inputBlocks, fed, begunWith, waitingFor, ending, printed, awaiting, readOn, following, stageIn, roomFor, Reaches, Begins, GoesOn}
 use Rattle.print.specs.declared.run.Run.{Run}
 
 -- ---- lines
@@ -96,8 +96,8 @@ enough (suc k) (suc m) (x ∷ s) h i =
     ap (λ (bs : List (List ℕ)). take 512 (x ∷ s) ∷ bs) (enough k m (drop 512 (x ∷ s)) (omega arith) (omega arith))
 
 -- an input that is not empty has a first block, and the blocks of what is left
-pub blocks-next : (s : List ℕ) → 0 < length s → blocksOf s ≡ take 512 s ∷ blocksOf (drop 512 s)
-unfolding blocksOf cut
+pub blocks-next : (s : List ℕ) → 0 < length s → inputBlocks s ≡ take 512 s ∷ inputBlocks (drop 512 s)
+unfolding inputBlocks cut
 blocks-next [] h = absurd (omega arith)
 blocks-next (x ∷ s) h =
     let l = length-drop 512 (x ∷ s) in
@@ -148,28 +148,28 @@ fed-ended g [] e = refl
 fed-ended g (b ∷ bs) e = simp e
 
 -- the block at an index, and the blocks behind it
-pub fed-step : (g h : Stage) (s : List ℕ) (at e : ℕ) → at < length s → e ≡ at + min 512 (length s - at) → g .waiting ≡ true → h ≡ repliedTo g (take (e - at) (drop at s)) → fed h (blocksOf (drop e s)) ≡ fed g (blocksOf (drop at s))
+pub fed-step : (g h : Stage) (s : List ℕ) (at e : ℕ) → at < length s → e ≡ at + min 512 (length s - at) → g .waiting ≡ true → h ≡ repliedTo g (take (e - at) (drop at s)) → fed h (inputBlocks (drop e s)) ≡ fed g (inputBlocks (drop at s))
 fed-step g h s at e l p w q =
     let k = block-at s at e (omega arith) p in
     let n : 0 < length (drop at s) = omega (arith, length-drop at s) in
-    ap (λ (x : Stage). fed x (blocksOf (drop e s))) (q ∙ ap (repliedTo g) (k .0))
-    ∙ ap (λ (t : List ℕ). fed (repliedTo g (take 512 (drop at s))) (blocksOf t)) (k .1)
-    ∙ sym (fed-next g (take 512 (drop at s)) (blocksOf (drop 512 (drop at s))) w)
+    ap (λ (x : Stage). fed x (inputBlocks (drop e s))) (q ∙ ap (repliedTo g) (k .0))
+    ∙ ap (λ (t : List ℕ). fed (repliedTo g (take 512 (drop at s))) (inputBlocks t)) (k .1)
+    ∙ sym (fed-next g (take 512 (drop at s)) (inputBlocks (drop 512 (drop at s))) w)
     ∙ ap (fed g) (sym (blocks-next (drop at s) n))
 
 -- no block is left
-pub fed-all : (g : Stage) (s : List ℕ) (at : ℕ) → length s ≤ at → fed g (blocksOf (drop at s)) ≡ g
-unfolding fed blocksOf cut
-fed-all g s at h = ap (λ (t : List ℕ). fed g (blocksOf t)) (drop-of-length-le s h)
+pub fed-all : (g : Stage) (s : List ℕ) (at : ℕ) → length s ≤ at → fed g (inputBlocks (drop at s)) ≡ g
+unfolding fed inputBlocks cut
+fed-all g s at h = ap (λ (t : List ℕ). fed g (inputBlocks t)) (drop-of-length-le s h)
 
 -- the order block, and the reply blocks behind it
-pub begun : (s : List ℕ) (e : ℕ) (g : Stage) {n : Next} → e ≡ 0 + min 512 (length s - 0) → n ≡ takeOf (take (e - 0) (drop 0 s)) → g ≡ answeredOf n [] → fed g (blocksOf (take (length s - e) (drop e s))) ≡ begunWith s
+pub begun : (s : List ℕ) (e : ℕ) (g : Stage) {n : Next} → e ≡ 0 + min 512 (length s - 0) → n ≡ takeOf (take (e - 0) (drop 0 s)) → g ≡ answeredOf n [] → fed g (inputBlocks (take (length s - e) (drop e s))) ≡ begunWith s
 unfolding begunWith
 begun s e g p q r =
     let k = block-at s 0 e (omega arith) p in
     let t : take (length s - e) (drop e s) ≡ drop 512 s = take-all (length s - e) (drop e s) (omega (arith, length-drop e s)) ∙ k .1 in
-    ap (λ (x : Stage). fed x (blocksOf (take (length s - e) (drop e s)))) (r ∙ ap (λ (x : Next). answeredOf x []) (q ∙ ap takeOf (k .0)))
-    ∙ ap (λ (b : List ℕ). fed (answeredOf (takeOf (take 512 s)) []) (blocksOf b)) t
+    ap (λ (x : Stage). fed x (inputBlocks (take (length s - e) (drop e s)))) (r ∙ ap (λ (x : Next). answeredOf x []) (q ∙ ap takeOf (k .0)))
+    ∙ ap (λ (b : List ℕ). fed (answeredOf (takeOf (take 512 s)) []) (inputBlocks b)) t
 
 -- ---- one read after another
 
@@ -180,8 +180,8 @@ cleared g = record { state = g .state; waiting = g .waiting; text = [] }
 abbrev behind : List ℕ → Stage → Stage
 behind text g = record { state = g .state; waiting = g .waiting; text = text ++ g .text }
 
-blocks-append : (m : ℕ) (s t : List ℕ) → length s ≡ 512 * m → blocksOf (s ++ t) ≡ blocksOf s ++ blocksOf t
-unfolding blocksOf cut
+blocks-append : (m : ℕ) (s t : List ℕ) → length s ≡ 512 * m → inputBlocks (s ++ t) ≡ inputBlocks s ++ inputBlocks t
+unfolding inputBlocks cut
 blocks-append zero [] t e = refl
 blocks-append zero (x ∷ s) t e = absurd (omega arith)
 blocks-append (suc m) s t e =
@@ -190,7 +190,7 @@ blocks-append (suc m) s t e =
     let p : 0 < length (s ++ t) = omega (arith, length-append s t) in
     blocks-next (s ++ t) p
     ∙ rw (take-append-le 512 s t h, drop-append-le 512 s t h) (ap (λ (bs : List (List ℕ)). take 512 s ∷ bs) (blocks-append m (drop 512 s) t n))
-    ∙ ap (λ (bs : List (List ℕ)). bs ++ blocksOf t) (sym (blocks-next s (omega arith)))
+    ∙ ap (λ (bs : List (List ℕ)). bs ++ inputBlocks t) (sym (blocks-next s (omega arith)))
 
 -- a test is true or false
 known {ℓ} : {X : Type ℓ} (b : Bool) → (b ≡ true → X) → (b ≡ false → X) → X
@@ -221,14 +221,14 @@ fed-behind text g (b ∷ bs) =
 fed-cleared : (g : Stage) (bs : List (List ℕ)) → fed g bs ≡ behind (g .text) (fed (cleared g) bs)
 fed-cleared g bs = ap (λ (h : Stage). fed h bs) (stage-of (g .state) refl (sym (append-nil (g .text)))) ∙ fed-behind (g .text) (cleared g) bs
 
-fed-on : (g h : Stage) (s t : List ℕ) (m : ℕ) → h ≡ fed g (blocksOf s) → length s ≡ 512 * m → fed g (blocksOf (s ++ t)) ≡ behind (h .text) (fed (cleared h) (blocksOf t))
+fed-on : (g h : Stage) (s t : List ℕ) (m : ℕ) → h ≡ fed g (inputBlocks s) → length s ≡ 512 * m → fed g (inputBlocks (s ++ t)) ≡ behind (h .text) (fed (cleared h) (inputBlocks t))
 fed-on g h s t m q e =
     ap (fed g) (blocks-append m s t e)
-    ∙ fed-append g (blocksOf s) (blocksOf t)
-    ∙ ap (λ (x : Stage). fed x (blocksOf t)) (sym q)
-    ∙ fed-cleared h (blocksOf t)
+    ∙ fed-append g (inputBlocks s) (inputBlocks t)
+    ∙ ap (λ (x : Stage). fed x (inputBlocks t)) (sym q)
+    ∙ fed-cleared h (inputBlocks t)
 
-begun-on : (h : Stage) (s t : List ℕ) (m : ℕ) → h ≡ begunWith s → length s ≡ 512 * suc m → begunWith (s ++ t) ≡ behind (h .text) (fed (cleared h) (blocksOf t))
+begun-on : (h : Stage) (s t : List ℕ) (m : ℕ) → h ≡ begunWith s → length s ≡ 512 * suc m → begunWith (s ++ t) ≡ behind (h .text) (fed (cleared h) (inputBlocks t))
 unfolding begunWith
 begun-on h s t m q e =
     let k : 512 ≤ length s = omega arith in
@@ -236,17 +236,17 @@ begun-on h s t m q e =
     rw (take-append-le 512 s t k, drop-append-le 512 s t k) (fed-on (answeredOf (takeOf (take 512 s)) []) h (drop 512 s) t m q n)
 
 -- the text of a run that goes on from a stage
-goes-on-from : (h : Stage) (t : List ℕ) → ending (behind (h .text) (fed (cleared h) (blocksOf t))) ≡ h .text ++ if (h .waiting) (following (h .state) t) []
+goes-on-from : (h : Stage) (t : List ℕ) → ending (behind (h .text) (fed (cleared h) (inputBlocks t))) ≡ h .text ++ if (h .waiting) (following (h .state) t) []
 goes-on-from h t =
-    append-assoc (h .text) (fed (cleared h) (blocksOf t) .text) _
+    append-assoc (h .text) (fed (cleared h) (inputBlocks t) .text) _
     ∙ ap (λ (x : List ℕ). h .text ++ x) (
     known (h .waiting)
     (λ w. rw w refl)
-    (λ w. rw (w, fed-ended (record { state = h .state; waiting = false; text = [] }) (blocksOf t) refl) refl))
+    (λ w. rw (w, fed-ended (record { state = h .state; waiting = false; text = [] }) (inputBlocks t) refl) refl))
 
 -- the text of a run whose input ends at a stage
 ends-at : (h : Stage) (t : List ℕ) → t ≡ [] → ending h ≡ h .text ++ if (h .waiting) (following (h .state) t) []
-unfolding fed blocksOf cut
+unfolding fed inputBlocks cut
 ends-at h [] e = refl
 ends-at h (x ∷ t) e = let z : _≡_ {A = ℕ} 0 1 = cc in absurd (omega arith)
 
@@ -289,6 +289,6 @@ pub read-none : (q : Recorder) (s : List ℕ) → length s ≡ 0 → waitingFor 
 read-none q [] h = refl
 read-none q (x ∷ s) h = absurd (omega arith)
 
-pub read-some : (r : Run) (text s : List ℕ) → r .waiting ≡ true → r .used ≡ 0 → 0 < length s → fed (stageIn r text) (blocksOf s) ≡ readOn (r .state) s
+pub read-some : (r : Run) (text s : List ℕ) → r .waiting ≡ true → r .used ≡ 0 → 0 < length s → fed (stageIn r text) (inputBlocks s) ≡ readOn (r .state) s
 read-some r text [] w u h = absurd (omega arith)
-read-some r text (x ∷ s) w u h = ap (λ (g : Stage). fed g (blocksOf (x ∷ s))) (stage-of (r .state) w (ap (λ (k : ℕ). take k text) u))
+read-some r text (x ∷ s) w u h = ap (λ (g : Stage). fed g (inputBlocks (x ∷ s))) (stage-of (r .state) w (ap (λ (k : ℕ). take k text) u))

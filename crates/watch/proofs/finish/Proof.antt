@@ -1,28 +1,33 @@
-use mathlib.Core.Path.{_≡_, refl, _∙_}
+use mathlib.Core.Path.{_≡_, refl, sym, _∙_}
+use mathlib.Core.Bool.{true}
 use mathlib.Core.List.{List, [], _∷_}
 use Prim.Native.Nat.{ℕ, _+_, _-_}
 use native.Mathlib.Omega.{arith}
 use lib.ListN.{length, take}
-use Rattle.watch.specs.Watch.{Stage, afterReads, stageIn}
-use Rattle.watch.specs.declared.stage.Watch.{Watch}
+use Rattle.watch.specs.Watch.{Read, Written, readsOn, afterReads, writtenIn}
+use Rattle.watch.specs.declared.Sent.{Sent}
 use Rattle.watch.proofs.Bench.{example-stages}
 use Rattle.watch.proofs.stage.Laws.{again}
 use Rattle.watch.proofs.finish.Statement.{statement}
 use Rattle.watch.proofs.finish.Tie as tie
 
 -- the reads so far, and the turns that are left
-abbrev ReadsSoFar : Stage → Watch → List ℕ → ℕ → Type 0
-ReadsSoFar g w text turns = (reads : List (List ℕ)) × (stageIn w text ≡ afterReads g reads) × (length reads + turns ≡ 18446744073709551615)
+abbrev ReadsSoFar : Written → Sent → List ℕ → ℕ → Type 0
+ReadsSoFar first sent text turns = (reads : List Read) × (writtenIn sent text ≡ afterReads first reads) × (length reads + turns ≡ 18446744073709551615)
 
 abbrev Inv-loop : tie.InvT-loop
-Inv-loop terminal block₀ text₀ w₀ turns₀ block text w turns = (length block ≡ length block₀) × (length text ≡ length text₀) × ReadsSoFar (stageIn w₀ text₀) w text turns
+Inv-loop terminal block₀ text₀ sent₀ turns₀ block text sent turns = (length block ≡ length block₀) × (length text ≡ length text₀) × ReadsSoFar (writtenIn sent₀ text₀) sent text turns
 
 abbrev μ-loop : tie.MeasureT-loop
-μ-loop terminal block₀ text₀ w₀ turns₀ block text w turns = turns
+μ-loop terminal block₀ text₀ sent₀ turns₀ block text sent turns = turns
 
 loop-holds : tie.Need-loop-holds Inv-loop μ-loop
 unfolding afterReads
 loop-holds c = (refl, refl, ([], refl, refl))
+
+-- the program reads on
+on : (c : tie.Then1 Inv-loop μ-loop) → readsOn (writtenIn (c .before .before .before .before .loop .sent) (c .before .before .before .before .loop .text)) ≡ true
+on c = sym (c .before .reads-on .ensures) ∙ c .if1 .taken
 
 read-full-requires : tie.Need-read-full-requires Inv-loop μ-loop
 read-full-requires c κs = omega arith
@@ -40,41 +45,44 @@ go-on-requires : tie.Need-go-on-requires Inv-loop μ-loop
 go-on-requires c κs = omega arith
 
 flush-requires : tie.Need-flush-requires Inv-loop μ-loop
-flush-requires c κs = omega arith
+flush-requires c κs =
+    let g = c .before .before .before .before in
+    let l = g .before .before .before .before .before .before .before .before .before .before .before .before .before .before in
+    omega (arith, g .go-on .ensures .room, g .go-on .kept .1 .1 .0, l .loop .inv .1, l .before .before .before .pre .1)
 
 sub-turns : tie.Need-sub-turns Inv-loop μ-loop
-sub-turns c = omega (arith, c .before .before .before .before .before .before .before .before .before .before .before .before .before .before .before .loop-test)
+sub-turns c = omega (arith, c .before .before .before .before .before .before .before .before .before .before .before .before .before .before .before .before .before .before .loop-test)
 
 loop-less : tie.Need-loop-less Inv-loop μ-loop
-loop-less c = omega (arith, c .before .before .before .before .before .before .before .before .before .before .before .before .before .before .before .loop-test)
+loop-less c = omega (arith, c .before .before .before .before .before .before .before .before .before .before .before .before .before .before .before .before .before .before .loop-test)
 
 loop-again : tie.Need-loop-again Inv-loop μ-loop
 loop-again c =
     let g = c .before .before .before .before .before in
-    let b = g .before .before .before .before .before .before .before in
+    let b = g .before .before .before .before .before .before .before .before in
     let t = b .before .before in
-    let l = t .before .before in
+    let l = t .before .before .before .before in
     let a = l .before .before .before .args in
     let r = l .loop .inv .2 in (
       b .read-full .kept .1 .0 ∙ l .loop .inv .0,
       g .go-on .kept .1 .1 .0 ∙ l .loop .inv .1,
       (
-        take (b .read-full .result - 0) (b .read-full .last .1 .0) ∷ r .0,
-        again (stageIn (a .first) (a .text .now)) (stageIn (l .loop .w) (l .loop .text)) _ (r .0) (r .1) (t .if1 .taken) (g .go-on .ensures) (c .flush .ensures),
-        omega (arith, r .2, t .before .loop-test),
+        record { bytes = take (b .read-full .result - 0) (b .read-full .last .1 .0); out = c .flush .result .out } ∷ r .0,
+        again (writtenIn (a .first) (a .text .now)) (writtenIn (l .loop .sent) (l .loop .text)) _ (r .0) (r .1) (on t) (g .go-on .ensures) (c .flush .ensures),
+        omega (arith, r .2, t .before .before .before .loop-test),
       ),
     )
 
 same-length : tie.Need-same-length Inv-loop μ-loop
-same-length c = c .before .before .loop .inv .0
+same-length c = c .before .before .before .before .loop .inv .0
 
 same-length-2 : tie.Need-same-length-2 Inv-loop μ-loop
-same-length-2 c = c .before .before .loop .inv .1
+same-length-2 c = c .before .before .before .before .loop .inv .1
 
 returns : tie.Need-returns Inv-loop μ-loop
 returns c =
-    let r = c .before .before .loop .inv .2 in
-    (record { reads = r .0; stage = r .1; ended = λ h. c .if1 .left }, example-stages)
+    let r = c .before .before .before .before .loop .inv .2 in
+    (record { reads = r .0; written = r .1; ended = λ h. sym (c .before .reads-on .ensures) ∙ c .if1 .left }, example-stages)
 
 same-length-3 : tie.Need-same-length-3 Inv-loop μ-loop
 same-length-3 c = c .before .loop .inv .0
@@ -85,7 +93,7 @@ same-length-4 c = c .before .loop .inv .1
 returns-2 : tie.Need-returns-2 Inv-loop μ-loop
 returns-2 c =
     let r = c .before .loop .inv .2 in
-    (record { reads = r .0; stage = r .1; ended = λ h. absurd (omega arith) }, example-stages)
+    (record { reads = r .0; written = r .1; ended = λ h. absurd (omega arith) }, example-stages)
 
 pub finish-spec : {M : Type 1} → statement M
 finish-spec =
@@ -94,6 +102,7 @@ finish-spec =
     Inv-loop
     μ-loop
     loop-holds
+    (λ c κs. tt)
     read-full-requires
     sub-go-on
     part-go-on-start

@@ -2,7 +2,7 @@
 use mathlib.Core.Path.{_≡_, refl, sym, ap, subst, _∙_}
 use mathlib.Core.Bool.{Bool, true, false}
 use mathlib.Core.List.{List, [], _∷_, _++_}
-use Prim.Native.Nat.{ℕ, _+_, _-_, _≤_}
+use Prim.Native.Nat.{ℕ, _+_, _≤_}
 use native.Mathlib.Omega.{arith}
 use borrow.Author.Tests.{le-leb, leb-true}
 use lib.Dec.{leb}
@@ -18,8 +18,9 @@ use Rattle.mmc.specs.declared.refusals.Made.the-variants as M
 use Rattle.recorder.specs.declared.job.Recorder.{Recorder}
 use Rattle.lines.specs.Lines.{Writes}
 use Rattle.lines.specs.Shown.{widest}
-use Rattle.watch.specs.Watch.{writtenBy, Stage, standing, repliedOf, readOn, afterReads, stageIn, Stands}
+use Rattle.watch.specs.Watch.{writtenBy, Stage, standing, repliedOf, readOn, Read, Written, readsOn, afterReads, stageIn, writtenIn, Stands}
 use Rattle.watch.specs.declared.stage.Watch.{Watch}
+use Rattle.watch.specs.declared.Sent.{Sent}
 
 -- ---- a line
 
@@ -55,13 +56,16 @@ pub read-some : (r : Recorder) (s : List ℕ) → (length s ≡ 0 → ⊥) → r
 read-some r [] n = absurd (n refl)
 read-some r (x ∷ s) n = refl
 
--- one read more, where a reply is awaited, and its line shown
-pub again : (g k : Stage) {next out : Watch} {after : List ℕ} (s : List ℕ) (ss : List (List ℕ)) → k ≡ afterReads g ss → k .waiting ≡ true → Stands (readOn (k .recorder) s) next after → out ≡ next → stageIn out after ≡ afterReads g (s ∷ ss)
+-- one read more, where the program reads on, and its line written
+abbrev writtenAt : Stage → Bool → Written
+writtenAt g out = record { stage = g; out = out }
+
+pub again : (first w : Written) {next : Watch} {sent : Sent} {after : List ℕ} (s : List ℕ) (rs : List Read) → w ≡ afterReads first rs → readsOn w ≡ true → Stands (readOn (w .stage .recorder) s) next after → sent .watch ≡ next → writtenIn sent after ≡ afterReads first (record { bytes = s; out = sent .out } ∷ rs)
 unfolding afterReads
-again g k {next} {out} {after} s ss h e n f =
-    let x : afterReads g ss .waiting ≡ true = ap (λ (y : Stage). y .waiting) (sym h) ∙ e in
-    let y : afterReads g ss .recorder ≡ k .recorder = ap (λ (z : Stage). z .recorder) (sym h) in
-    ap (λ (w : Watch). stageIn w after) f ∙ n .stage ∙ rw (x, y) refl
+again first w {next} {sent} {after} s rs h e n f =
+    let x : readsOn (afterReads first rs) ≡ true = ap (λ (z : Written). readsOn z) (sym h) ∙ e in
+    let y : afterReads first rs .stage .recorder ≡ w .stage .recorder = ap (λ (z : Written). z .stage .recorder) (sym h) in
+    ap (λ (g : Stage). writtenAt g (sent .out)) (ap (λ (v : Watch). stageIn v after) f ∙ n .stage) ∙ rw (x, y) refl
 
 -- ---- the data of a reply block
 

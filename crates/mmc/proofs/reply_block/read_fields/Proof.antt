@@ -12,7 +12,7 @@ use Rattle.mmc.proofs.reply_block.read_fields.Statement.{statement}
 use Rattle.mmc.proofs.reply_block.read_fields.Tie as tie
 
 reply-ok-requires : tie.Need-reply-ok-requires
-reply-ok-requires c κs = fault-length _ (c .before .pre)
+reply-ok-requires c κs = (fault-length _ (c .before .pre .0), c .before .pre .1)
 
 returns : tie.Need-returns
 unfolding readReply
@@ -20,15 +20,15 @@ returns c =
     let k = c .before in
     let b = k .before .before .args .b .now in
     record {
-      answer = sym (read-unlisted b (replyOk b) (replyIn b) (k .before .before .pre) (sym (k .reply-ok .ensures) ∙ not-true (k .reply-ok .result) (c .if1 .taken)));
+      answer = sym (read-unlisted b (replyOk b) (replyIn b) (k .before .before .pre .0) (sym (k .reply-ok .ensures) ∙ not-true (k .reply-ok .result) (c .if1 .taken)));
       written = written b (λ i. k .before .shared-slice-known .given i .fits);
     }
 
 data-length-requires : tie.Need-data-length-requires
-data-length-requires c κs = fault-length _ (c .before .before .before .pre)
+data-length-requires c κs = fault-length _ (c .before .before .before .pre .0)
 
 shared-slice-read-if2 : tie.Need-shared-slice-read-if2
-shared-slice-read-if2 c = let n = fault-length _ (c .before .before .before .before .before .pre) in omega (arith, n)
+shared-slice-read-if2 c = let n = fault-length _ (c .before .before .before .before .before .pre .0) in omega (arith, n)
 
 -- a listed reply, with its mark and its bytes
 said : (c : tie.After-data-length) (g : Bool) → c .data-length .result ≡ dataLength (c .before .before .before .before .args .b .now) → eqb (getD (c .before .before .before .before .args .b .now) 1 0) 0 ≡ g
@@ -37,7 +37,7 @@ unfolding readReply replyIn
 said c g e f =
     let k = c .before .before in
     let b = k .before .before .args .b .now in
-    rw (← f, e) (sym (read-listed b (replyOk b) (replyIn b) (k .before .before .pre) (sym (k .reply-ok .ensures) ∙ not-false (k .reply-ok .result) (c .before .if1 .left))))
+    rw (← f, e) (sym (read-listed b (replyOk b) (replyIn b) (k .before .before .pre .0) (sym (k .reply-ok .ensures) ∙ not-false (k .reply-ok .result) (c .before .if1 .left))))
 
 returns-2 : tie.Need-returns-2
 unfolding readReply

@@ -1,11 +1,6 @@
-use mathlib.Core.Path.{_≡_, ap, _∙_}
-use Prim.Native.Nat.{ℕ, _+_, _-_}
-use native.Mathlib.Omega.{arith}
-use lib.ListN.{take, drop}
 use borrow.Author.Tests.{lt-leb, le-leb, eq-eqb, ne-eqb}
-use Rattle.basics.specs.Bytes.{allZero}
-use Rattle.mmc.specs.ReplyBlock.{replyOk}
 use borrow.Author.Needs.{needs}
+use Rattle.mmc.specs.ReplyBlock.{replyOk}
 use Rattle.mmc.proofs.reply_block.reply_ok.Statement.{statement}
 use Rattle.mmc.proofs.reply_block.reply_ok.Tie as tie
 
@@ -33,32 +28,13 @@ returns-3 c =
     let e = d .before in
     simp (eq-eqb _ _ (e .before .before .if1 .left), le-leb _ _ (e .if2 .left), ← d .data-length .ensures .0, lt-leb _ _ (c .if3 .taken))
 
-add-end : tie.Need-add-end
-add-end c = search needs
-
-sub-all-zero : tie.Need-sub-all-zero
-sub-all-zero c = search needs
-
-part-all-zero-start : tie.Need-part-all-zero-start
-part-all-zero-start c = search needs
-
-part-all-zero-end : tie.Need-part-all-zero-end
-part-all-zero-end c = search needs
-
-all-zero-requires : tie.Need-all-zero-requires
-all-zero-requires c κs = search needs
-
 returns-4 : tie.Need-returns-4
 unfolding replyOk
 returns-4 c =
-    let i = c .before .before in
-    let d = i .before in
+    let d = c .before in
     let e = d .before in
-    let b = e .before .before .before .before .before .args .b .now in
-    let n = d .data-length .result in
-    let k : 510 - (4 + n) ≡ 506 - n = omega arith in
-    let z : c .all-zero .result ≡ allZero (take (506 - n) (drop (4 + n) b)) = c .all-zero .ensures ∙ ap (λ (j : ℕ). allZero (take j (drop (4 + n) b))) k in
-    simp (eq-eqb _ _ (e .before .before .if1 .left), le-leb _ _ (e .if2 .left), ← d .data-length .ensures .0, le-leb _ _ (i .if3 .left), z)
+    let st = e .before .before .before .before .before in
+    simp (st .pre .1, eq-eqb _ _ (e .before .before .if1 .left), le-leb _ _ (e .if2 .left), ← d .data-length .ensures .0, le-leb _ _ (c .if3 .left))
 
 pub reply-ok-spec : {M : Type 1} → statement M
 reply-ok-spec =
@@ -70,9 +46,4 @@ reply-ok-spec =
     returns-2
     data-length-requires
     returns-3
-    add-end
-    sub-all-zero
-    part-all-zero-start
-    part-all-zero-end
-    all-zero-requires
     returns-4)

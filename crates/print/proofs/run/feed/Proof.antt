@@ -3,7 +3,7 @@ use Prim.Native.Nat.{_+_, _-_, _≤_}
 use native.Mathlib.Omega.{arith}
 use lib.ListN.{length, drop}
 use borrow.Author.Tests.{not-true, not-false}
-use Rattle.print.specs.Run.{stageIn, roomFor, fed, blocksOf}
+use Rattle.print.specs.Run.{stageIn, roomFor, fed, inputBlocks}
 use Rattle.print.proofs.run.Laws.{Ends, block-ends, fed-ended, fed-step, fed-all}
 use Rattle.print.proofs.run.feed.Statement.{statement}
 use Rattle.print.proofs.run.feed.Tie as tie
@@ -13,7 +13,7 @@ Inv-loop input text₀ current₀ at₀ text current at =
     (at ≤ length input)
     × (length text ≡ length text₀)
     × (current .used + roomFor (length input - at) ≤ length text₀)
-    × (fed (stageIn current text) (blocksOf (drop at input)) ≡ fed (stageIn current₀ text₀) (blocksOf input))
+    × (fed (stageIn current text) (inputBlocks (drop at input)) ≡ fed (stageIn current₀ text₀) (inputBlocks input))
 
 abbrev μ-loop : tie.MeasureT-loop
 μ-loop input text₀ current₀ at₀ text current at = length input - at
