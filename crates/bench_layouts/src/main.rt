@@ -9,22 +9,22 @@ mod readers;
 mod request;
 mod signed;
 
-use crate::line::put;
-use crate::line::put_text;
 use crate::makers::made_line;
 use crate::readers::read_line;
+use crate::request::MOST_BYTES;
 use crate::request::operation;
+use ascii::add;
 use libc::STDIN_FILENO;
 use libc::STDOUT_FILENO;
 use mmc::bytes::number16;
 
-// Puts the answer to a request into the line, without its line feed.
+// Writes the answer to a request into the line, without its line feed.
 fn answer_line(b: &[u8], line: &mut [u8]) -> usize {
     let op = operation(b);
     match op {
         1..=5 => read_line(op, b, line),
         6..=20 => made_line(op, b, line),
-        _ => put_text(line, 0, b"bad request"),
+        _ => add(line, 0, b"bad request"),
     }
 }
 
@@ -36,11 +36,14 @@ fn write_line(line: &[u8], n: usize) -> bool {
     io::write_all(STDOUT_FILENO, &line[0..n])
 }
 
+// An answer line is not longer: a lent buffer in hex, and what the maker answered.
+const LONGEST_LINE: usize = 4 * MOST_BYTES;
+
 // Answers a request, and tells whether the whole answer was written.
 fn answer(b: &[u8]) -> bool {
-    let mut line = [0u8; 16384];
+    let mut line = [0u8; LONGEST_LINE];
     let end = answer_line(b, &mut line);
-    let n = put(&mut line, end, b'\n');
+    let n = add(&mut line, end, b"\n");
     write_line(&line, n)
 }
 
@@ -55,10 +58,10 @@ fn serve_in(room: &mut [u8]) -> bool {
 
 // Serves a payload of n bytes.
 fn serve_payload(n: usize) -> bool {
-    if 4096 < n {
+    if MOST_BYTES < n {
         return false;
     }
-    let mut space = [0u8; 4096];
+    let mut space = [0u8; MOST_BYTES];
     serve_in(&mut space[0..n])
 }
 

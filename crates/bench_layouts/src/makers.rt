@@ -1,9 +1,8 @@
 // Requests that make bytes in a lent buffer. They answer `ok`, or `refused` and the refusal's number,
 // and the whole buffer, which was filled with A5h beforehand.
-use crate::line::put;
-use crate::line::put_bytes;
-use crate::line::put_text;
-use crate::readers::put_refusal;
+use crate::line::add_bytes;
+use crate::readers::add_refusal;
+use crate::request::MOST_BYTES;
 use crate::request::address_at;
 use crate::request::four_at;
 use crate::request::from;
@@ -13,6 +12,7 @@ use crate::request::one_at;
 use crate::request::order_at;
 use crate::request::set_at;
 use crate::request::two_at;
+use ascii::add;
 use mmc::commands;
 use mmc::order_block::write_order;
 use mmc::page::mode_data;
@@ -48,25 +48,25 @@ fn make(op: u32, b: &[u8], out: &mut [u8]) -> Made {
     }
 }
 
-// Puts what the maker answered, up to the buffer's bytes.
-fn put_made(line: &mut [u8], made: Made) -> usize {
+// Writes what the maker answered, up to the buffer's bytes.
+fn add_made(line: &mut [u8], made: Made) -> usize {
     match made {
-        Made::Bytes(_) => put_text(line, 0, b"ok"),
-        Made::Refused(r) => put_refusal(line, r),
+        Made::Bytes(_) => add(line, 0, b"ok"),
+        Made::Refused(r) => add_refusal(line, r),
     }
 }
 
-// Makes into the lent buffer, and puts the answer.
+// Makes into the lent buffer, and writes the answer.
 fn made_in(op: u32, b: &[u8], lent: &mut [u8], line: &mut [u8]) -> usize {
     let made = make(op, b, lent);
-    let next = put_made(line, made);
-    let bytes = put(line, next, b' ');
-    put_bytes(line, bytes, lent)
+    let next = add_made(line, made);
+    let bytes = add(line, next, b" ");
+    add_bytes(line, bytes, lent)
 }
 
 // Answers a request of operation 6 to 20.
 pub(crate) fn made_line(op: u32, b: &[u8], line: &mut [u8]) -> usize {
-    let mut space = [0xA5u8; 4096];
+    let mut space = [0xA5u8; MOST_BYTES];
     let n = lent_length(b);
     made_in(op, b, &mut space[0..n], line)
 }

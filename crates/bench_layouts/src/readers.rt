@@ -1,13 +1,15 @@
 // Requests that convert a number or read bytes. They answer `ok` and what was read, or `refused` and
 // the refusal's number.
-use crate::line::put_bytes;
-use crate::line::put_next;
-use crate::line::put_number;
-use crate::line::put_signed;
-use crate::line::put_text;
+ghost use mathlib.Core.Path.{_≡_};
+ghost use Rattle.mmc.specs.OrderBlock.{kindByte, methodByte, flagsByte};
+use crate::line::add_bytes;
+use crate::line::add_next;
+use crate::line::add_signed;
 use crate::request::address_at;
 use crate::request::from;
 use crate::request::one_at;
+use ascii::add;
+use ascii::add_decimal;
 use mmc::bytes::flag;
 use mmc::order::Kind;
 use mmc::order::Method;
@@ -28,31 +30,31 @@ use mmc::times::TimeAnswer;
 use mmc::times::address_of;
 use mmc::times::time_of;
 
-// Puts a refusal with its number.
-pub(crate) fn put_refusal(line: &mut [u8], r: Refusal) -> usize {
-    let next = put_text(line, 0, b"refused ");
-    put_number(line, next, number(r) as u64)
+// Writes a refusal with its number.
+pub(crate) fn add_refusal(line: &mut [u8], r: Refusal) -> usize {
+    let next = add(line, 0, b"refused ");
+    add_decimal(line, next, number(r) as u64)
 }
 
-// Puts `ok` and a number behind it.
-fn put_first(line: &mut [u8], n: u64) -> usize {
-    let next = put_text(line, 0, b"ok ");
-    put_number(line, next, n)
+// Writes `ok` and a number behind it.
+fn add_first(line: &mut [u8], n: u64) -> usize {
+    let next = add(line, 0, b"ok ");
+    add_decimal(line, next, n)
 }
 
-// Puts a time.
-fn put_time(line: &mut [u8], t: Time) -> usize {
-    let second = put_first(line, t.minute as u64);
-    let frame = put_next(line, second, t.second as u64);
-    put_next(line, frame, t.frame as u64)
+// Writes a time.
+fn add_time(line: &mut [u8], t: Time) -> usize {
+    let second = add_first(line, t.minute as u64);
+    let frame = add_next(line, second, t.second as u64);
+    add_next(line, frame, t.frame as u64)
 }
 
 // Answers `time`.
 fn time_line(b: &[u8], line: &mut [u8]) -> usize {
     let answer = time_of(address_at(b, 1));
     match answer {
-        TimeAnswer::At(t) => put_time(line, t),
-        TimeAnswer::Refused(r) => put_refusal(line, r),
+        TimeAnswer::At(t) => add_time(line, t),
+        TimeAnswer::Refused(r) => add_refusal(line, r),
     }
 }
 
@@ -66,15 +68,17 @@ fn address_line(b: &[u8], line: &mut [u8]) -> usize {
     let answer = address_of(time);
     match answer {
         AddressAnswer::At(a) => {
-            let next = put_text(line, 0, b"ok ");
-            put_signed(line, next, a.0)
+            let next = add(line, 0, b"ok ");
+            add_signed(line, next, a.0)
         }
-        AddressAnswer::Refused(r) => put_refusal(line, r),
+        AddressAnswer::Refused(r) => add_refusal(line, r),
     }
 }
 
 // The number of a kind.
-fn kind_number(k: Kind) -> u64 {
+fn kind_number(k: Kind) -> u64
+    ensures { λ r. ⌜ r ≡ kindByte k ⌝ }
+{
     match k {
         Kind::Audio => 0,
         Kind::Data => 1,
@@ -82,7 +86,9 @@ fn kind_number(k: Kind) -> u64 {
 }
 
 // The number of a method.
-fn method_number(m: Method) -> u64 {
+fn method_number(m: Method) -> u64
+    ensures { λ r. ⌜ r ≡ methodByte m ⌝ }
+{
     match m {
         Method::Tao => 1,
         Method::Sao => 2,
@@ -90,43 +96,45 @@ fn method_number(m: Method) -> u64 {
 }
 
 // The number of the flags.
-fn flags_number(o: Order) -> u64 {
+fn flags_number(o: Order) -> u64
+    ensures { λ r. ⌜ r ≡ flagsByte (o .keep) (o .protect) (o .immed) (o .erase) ⌝ }
+{
     (flag(o.keep, 1) + flag(o.protect, 2) + flag(o.immed, 4) + flag(o.erase, 8)) as u64
 }
 
-// Puts a track: its kind where kinds are asked for, and its length.
-fn put_track(line: &mut [u8], at: usize, kinds: bool, t: Track) -> usize {
+// Writes a track: its kind where kinds are asked for, and its length.
+fn add_track(line: &mut [u8], at: usize, kinds: bool, t: Track) -> usize {
     let kind = t.kind;
     let length = t.length.0 as u64;
     if kinds {
-        let next = put_next(line, at, kind_number(kind));
-        put_next(line, next, length)
+        let next = add_next(line, at, kind_number(kind));
+        add_next(line, next, length)
     } else {
-        put_next(line, at, length)
+        add_next(line, at, length)
     }
 }
 
-// Puts the first so many tracks.
-fn put_tracks(line: &mut [u8], at: usize, kinds: bool, count: u8, tracks: [Track; 99]) -> usize {
+// Writes the first so many tracks.
+fn add_tracks(line: &mut [u8], at: usize, kinds: bool, count: u8, tracks: [Track; 99]) -> usize {
     let n = count as usize;
     let mut end = at;
     let mut i: usize = 0;
-    while i < 99 && i < n {
-        end = put_track(line, end, kinds, tracks[i]);
+    while i < tracks.len() && i < n {
+        end = add_track(line, end, kinds, tracks[i]);
         i = i + 1;
     }
     end
 }
 
-// Puts an order.
-fn put_order(line: &mut [u8], o: Order) -> usize {
+// Writes an order.
+fn add_order(line: &mut [u8], o: Order) -> usize {
     let method = o.method;
     let count = o.count;
     let tracks = o.tracks;
-    let flags = put_first(line, method_number(method));
-    let counted = put_next(line, flags, flags_number(o));
-    let listed = put_next(line, counted, count as u64);
-    put_tracks(line, listed, true, count, tracks)
+    let flags = add_first(line, method_number(method));
+    let counted = add_next(line, flags, flags_number(o));
+    let listed = add_next(line, counted, count as u64);
+    add_tracks(line, listed, true, count, tracks)
 }
 
 // Answers `order-read`.
@@ -134,15 +142,15 @@ fn order_line(b: &[u8], line: &mut [u8]) -> usize {
     let read = read_order(from(b, 1));
     let check = read.check;
     match check {
-        Check::Passed => put_order(line, read.order),
-        Check::Refused(r) => put_refusal(line, r),
+        Check::Passed => add_order(line, read.order),
+        Check::Refused(r) => add_refusal(line, r),
     }
 }
 
-// Puts a reply's status and data.
-fn put_reply(line: &mut [u8], status: &[u8], bytes: &[u8]) -> usize {
-    let next = put_text(line, 0, status);
-    put_bytes(line, next, bytes)
+// Writes a reply's status and data.
+fn add_reply(line: &mut [u8], status: &[u8], bytes: &[u8]) -> usize {
+    let next = add(line, 0, status);
+    add_bytes(line, next, bytes)
 }
 
 // Answers `reply-read`.
@@ -150,20 +158,20 @@ fn reply_line(b: &[u8], line: &mut [u8]) -> usize {
     let block = from(b, 1);
     let read = read_reply(block);
     match read {
-        ReplyRead::Good(n) => put_reply(line, b"ok 0 ", reply_data(block, n)),
-        ReplyRead::Failed(n) => put_reply(line, b"ok 1 ", reply_data(block, n)),
-        ReplyRead::Refused(r) => put_refusal(line, r),
+        ReplyRead::Good(n) => add_reply(line, b"ok 0 ", reply_data(block, n)),
+        ReplyRead::Failed(n) => add_reply(line, b"ok 1 ", reply_data(block, n)),
+        ReplyRead::Refused(r) => add_refusal(line, r),
     }
 }
 
-// Puts a sheet's kind and lengths.
-fn put_sheet(line: &mut [u8], s: Sheet) -> usize {
+// Writes a sheet's kind and lengths.
+fn add_sheet(line: &mut [u8], s: Sheet) -> usize {
     let kind = s.kind;
     let count = s.count;
     let tracks = s.tracks;
-    let counted = put_first(line, kind_number(kind));
-    let listed = put_next(line, counted, count as u64);
-    put_tracks(line, listed, false, count, tracks)
+    let counted = add_first(line, kind_number(kind));
+    let listed = add_next(line, counted, count as u64);
+    add_tracks(line, listed, false, count, tracks)
 }
 
 // Answers `sheet-read`.
@@ -171,8 +179,8 @@ fn sheet_line(b: &[u8], line: &mut [u8]) -> usize {
     let read = read_sheet(from(b, 1));
     let check = read.check;
     match check {
-        Check::Passed => put_sheet(line, read.sheet),
-        Check::Refused(r) => put_refusal(line, r),
+        Check::Passed => add_sheet(line, read.sheet),
+        Check::Refused(r) => add_refusal(line, r),
     }
 }
 

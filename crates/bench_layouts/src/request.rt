@@ -25,6 +25,13 @@
 // Immed is set where its byte is not 0.
 // An order takes 498 bytes: method (1 TAO, 2 SAO), flags (1 keep, 2 protect, 4 Immed, 8 erase), count,
 // and 99 rows of kind (0 audio, 1 data) and length (4 bytes).
+ghost use mathlib.Core.Path.{_≡_};
+ghost use mathlib.Core.Bool.{not};
+ghost use Prim.Native.Nat.{_≤_, min};
+ghost use lib.Dec.{eqb};
+ghost use lib.ListN.{getD, drop};
+ghost use Rattle.basics.specs.Bytes.{be16, be32};
+ghost use Rattle.mmc.specs.OrderBlock.{kindOf, methodOf};
 use crate::signed::signed;
 use mmc::bytes::byte_at;
 use mmc::bytes::number16;
@@ -35,10 +42,14 @@ use mmc::order::Order;
 use mmc::order::Track;
 use mmc::units::BlockAddress;
 use mmc::units::BlockCount;
-ghost use Prim.Native.Nat.{_≤_};
+
+// A payload has so many bytes at most, and so has a lent buffer.
+pub(crate) const MOST_BYTES: usize = 4096;
 
 // The bytes from an index on.
-pub(crate) fn from(b: &[u8], at: usize) -> &[u8] {
+pub(crate) fn from(b: &[u8], at: usize) -> &[u8]
+    ensures { λ r. ⌜ now r ≡ drop at (now (b .entry)) ⌝ }
+{
     if b.len() < at {
         return &b[0..0];
     }
@@ -46,27 +57,37 @@ pub(crate) fn from(b: &[u8], at: usize) -> &[u8] {
 }
 
 // The operation's number.
-pub(crate) fn operation(b: &[u8]) -> u32 {
+pub(crate) fn operation(b: &[u8]) -> u32
+    ensures { λ r. ⌜ r ≡ getD (now (b .entry)) 0 0 ⌝ }
+{
     byte_at(b, 0)
 }
 
 // The byte at an index.
-pub(crate) fn one_at(b: &[u8], at: usize) -> u8 {
+pub(crate) fn one_at(b: &[u8], at: usize) -> u8
+    ensures { λ r. ⌜ r ≡ getD (now (b .entry)) at 0 ⌝ }
+{
     byte_at(b, at) as u8
 }
 
 // Whether the byte at an index is not 0.
-pub(crate) fn set_at(b: &[u8], at: usize) -> bool {
+pub(crate) fn set_at(b: &[u8], at: usize) -> bool
+    ensures { λ r. ⌜ r ≡ not (eqb (getD (now (b .entry)) at 0) 0) ⌝ }
+{
     byte_at(b, at) != 0
 }
 
 // The number in the two bytes at an index.
-pub(crate) fn two_at(b: &[u8], at: usize) -> u16 {
+pub(crate) fn two_at(b: &[u8], at: usize) -> u16
+    ensures { λ r. ⌜ r ≡ be16 (drop at (now (b .entry))) ⌝ }
+{
     number16(from(b, at)) as u16
 }
 
 // The number in the four bytes at an index.
-pub(crate) fn four_at(b: &[u8], at: usize) -> u32 {
+pub(crate) fn four_at(b: &[u8], at: usize) -> u32
+    ensures { λ r. ⌜ r ≡ be32 (drop at (now (b .entry))) ⌝ }
+{
     number32(from(b, at))
 }
 
@@ -80,14 +101,16 @@ pub(crate) fn address_at(b: &[u8], at: usize) -> BlockAddress {
 
 // How many bytes are lent, at most all there are.
 pub(crate) fn lent_length(b: &[u8]) -> usize
-    ensures { λ r. ⌜ r ≤ 4096 ⌝ }
+    ensures { λ r. ⌜ (r ≡ min (be16 (drop 1 (now (b .entry)))) 4096) × (r ≤ 4096) ⌝ }
 {
     let n = two_at(b, 1) as usize;
-    if 4096 < n { 4096 } else { n }
+    if MOST_BYTES < n { MOST_BYTES } else { n }
 }
 
 // The kind of the byte at an index.
-pub(crate) fn kind_at(b: &[u8], at: usize) -> Kind {
+pub(crate) fn kind_at(b: &[u8], at: usize) -> Kind
+    ensures { λ r. ⌜ r ≡ kindOf (getD (now (b .entry)) at 0) ⌝ }
+{
     if byte_at(b, at) == 0 {
         Kind::Audio
     } else {
@@ -96,7 +119,9 @@ pub(crate) fn kind_at(b: &[u8], at: usize) -> Kind {
 }
 
 // The method of the byte at an index.
-fn method_at(b: &[u8], at: usize) -> Method {
+fn method_at(b: &[u8], at: usize) -> Method
+    ensures { λ r. ⌜ r ≡ methodOf (getD (now (b .entry)) at 0) ⌝ }
+{
     if byte_at(b, at) == 1 {
         Method::Tao
     } else {
@@ -121,7 +146,7 @@ fn tracks_in(rows: &[u8]) -> [Track; 99] {
     };
     let mut tracks = [none; 99];
     let mut i: usize = 0;
-    while i < 99 {
+    while i < tracks.len() {
         tracks[i] = track_at(rows, 5 * i);
         i = i + 1;
     }

@@ -1,7 +1,7 @@
 -- The example lines, computed from the definitions.
 use mathlib.Core.Path.{refl}
 use Rattle.recorder.specs.Answers.{cdbOf}
-use Rattle.lines.specs.Text.{codes, parted, leading, decimal}
+use Rattle.ascii.specs.Text.{codes, parted, leading, decimal}
 use Rattle.lines.specs.Lines.{commandLine, countedLine, doneLine, waitingLine, stopText, stopLine, failedLine}
 use Rattle.lines.specs.Shown.{pair, howFar, percent, busyLine, idleLine, finishedLine, waitingShown, failure, wordsOf, reason, stoppedLine}
 use Rattle.lines.specs.Bench.{ExampleLines, ExampleShown}

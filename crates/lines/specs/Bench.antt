@@ -13,7 +13,7 @@ use Rattle.recorder.specs.declared.script.Op.the-variants.{ReadTrackInformation
 use Rattle.recorder.specs.declared.job.Phase.the-variants.{Going}
 use Rattle.recorder.specs.declared.job.Poll.{Poll}
 use Rattle.recorder.specs.declared.job.Poll.the-variants.{Off, Ready, Sense}
-use Rattle.lines.specs.Text.{codes}
+use Rattle.ascii.specs.Text.{codes}
 use Rattle.lines.specs.Lines.{waitingLine, lineOf}
 use Rattle.lines.specs.Shown.{busyLine, finishedLine, waitingShown, stoppedLine, shownLine}
 

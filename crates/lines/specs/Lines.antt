@@ -7,7 +7,7 @@ use Rattle.mmc.specs.declared.refusals.Made.{Made}
 use Rattle.recorder.specs.Answers.{because, drive-failed, Ruling, issue, done, stop, bytesIn}
 use Rattle.recorder.specs.declared.answers.Cdb.{Cdb}
 use Rattle.recorder.specs.declared.replies.Sense.{Sense}
-use Rattle.lines.specs.Text.{codes, parted, decimal}
+use Rattle.ascii.specs.Text.{codes, parted, decimal}
 
 -- "Each command is a line of two-digit capital hex bytes parted by single spaces"
 unfoldable pub commandLine : List ℕ → List ℕ

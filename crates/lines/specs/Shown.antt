@@ -11,7 +11,7 @@ use Rattle.recorder.specs.declared.script.Op.{Op}
 use Rattle.recorder.specs.declared.script.Op.the-variants.{GetConfiguration, ReadDiscInformation, ReadTrackInformation, ModeSelect, SendCueSheet, Write, SynchronizeCache, CloseTrack, CloseSession, Blank, TestUnitReady, RequestSense}
 use Rattle.recorder.specs.declared.job.Recorder.{Recorder}
 use Rattle.panel.specs.Panel.{Shown, idle, busy, finished, stopped, shownOf, senseIn}
-use Rattle.lines.specs.Text.{codes, parted, decimal}
+use Rattle.ascii.specs.Text.{codes, parted, decimal}
 use Rattle.lines.specs.Lines.{countedLine}
 
 -- ---- a command that waits for its reply

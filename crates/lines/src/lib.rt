@@ -8,8 +8,9 @@ ghost use Prim.Native.Nat.{_+_, _≤_, min};
 ghost use lib.ListN.{length};
 ghost use Rattle.mmc.specs.Refusals.{numberOf};
 ghost use Rattle.recorder.specs.Answers.{said};
-ghost use Rattle.lines.specs.Text.{Adds};
+ghost use Rattle.lines.specs.Text.{Behind};
 ghost use Rattle.lines.specs.Lines.{commandLine, countedLine, waitingLine, stopText, stopLine, failedLine, lineOf, longest, Writes};
+ghost use Rattle.lines.specs.Shown.{widest};
 ghost use Rattle.lines.specs.Bench.{ExampleLines};
 use crate::text::add;
 use crate::text::add_decimal;
@@ -22,12 +23,18 @@ use recorder::answers::Answer;
 use recorder::answers::Cdb;
 use recorder::replies::Sense;
 
+// So many bytes are enough for any line of the print program.
+const LONGEST: usize = 64;
+
+// So many are enough for any line of the panel program.
+const WIDEST: usize = 128;
+
 // A command's bytes.
 fn command_line(bytes: &[u8], out: &mut [u8]) -> Made
     requires { ⌜ length (now bytes) ≤ 12 ⌝ }
     ensures { λ r. ⌜ Writes longest (commandLine (now (bytes .entry))) r (now (out .entry)) (now (out .exit)) ⌝ }
 {
-    let mut line = [0u8; 64];
+    let mut line = [0u8; LONGEST];
     let a = add_hex(&mut line, 0, bytes);
     let end = add(&mut line, a, b"\n");
     fill(&line[0..end], out)
@@ -35,10 +42,10 @@ fn command_line(bytes: &[u8], out: &mut [u8]) -> Made
 
 // Some words and the count.
 pub(crate) fn counted_line(words: &[u8], count: u64, out: &mut [u8]) -> Made
-    requires { ⌜ length (now words) ≤ 107 ⌝ }
+    requires { ⌜ length (now words) + 21 ≤ widest ⌝ }
     ensures { λ r. ⌜ Writes (length (now (words .entry)) + 21) (countedLine (now (words .entry)) count) r (now (out .entry)) (now (out .exit)) ⌝ }
 {
-    let mut line = [0u8; 128];
+    let mut line = [0u8; WIDEST];
     let a = add(&mut line, 0, words);
     let b = add_decimal(&mut line, a, count);
     let end = add(&mut line, b, b"\n");
@@ -55,7 +62,7 @@ pub fn waiting_line(count: u64, out: &mut [u8]) -> Made
 // Writes `stop R N` at the start of a line.
 fn add_stop(line: &mut [u8], number: u8, count: u64) -> usize
     requires { ⌜ 46 ≤ length (now line) ⌝ }
-    ensures { λ r. ⌜ (Adds (stopText number count) 0 (now (line .entry)) r (now (line .exit))) × (r ≤ 46) ⌝ }
+    ensures { λ r. ⌜ (Behind (stopText number count) 0 (now (line .entry)) r (now (line .exit))) × (r ≤ 46) ⌝ }
 {
     let a = add(line, 0, b"stop ");
     let b = add_decimal(line, a, number as u64);
@@ -63,11 +70,12 @@ fn add_stop(line: &mut [u8], number: u8, count: u64) -> usize
     add_decimal(line, c, count)
 }
 
-// `stop R N`, by the refusal.
-pub fn stop_line(refusal: Refusal, count: u64, out: &mut [u8]) -> Made
+// `stop R N`, by the refusal. 12 comes here without its triple only from a caller that makes such an answer itself: the recorder stops
+// with it as `DriveFailed`, and a block is not refused with it.
+fn stop_line(refusal: Refusal, count: u64, out: &mut [u8]) -> Made
     ensures { λ r. ⌜ Writes longest (stopLine (numberOf refusal) count) r (now (out .entry)) (now (out .exit)) ⌝ }
 {
-    let mut line = [0u8; 64];
+    let mut line = [0u8; LONGEST];
     let a = add_stop(&mut line, number(refusal), count);
     let end = add(&mut line, a, b"\n");
     fill(&line[0..end], out)
@@ -78,7 +86,7 @@ fn failed_line(sense: Sense, count: u64, out: &mut [u8]) -> Made
     ensures { λ r. ⌜ Writes longest (failedLine sense count) r (now (out .entry)) (now (out .exit)) ⌝ }
 {
     let triple = [sense.key, sense.asc, sense.ascq];
-    let mut line = [0u8; 64];
+    let mut line = [0u8; LONGEST];
     let a = add_stop(&mut line, 12, count);
     let b = add(&mut line, a, b" ");
     let c = add_hex(&mut line, b, &triple);

@@ -4,10 +4,12 @@ ghost use mathlib.Core.List.{_++_};
 ghost use lib.ListN.{length};
 ghost use Rattle.mmc.specs.Refusals.{numberOf};
 ghost use Rattle.recorder.specs.Replies.{noSense};
-ghost use Rattle.lines.specs.Text.{codes, Adds};
+ghost use Rattle.ascii.specs.Text.{codes};
+ghost use Rattle.lines.specs.Text.{Behind};
 ghost use Rattle.lines.specs.Lines.{Writes};
 ghost use Rattle.lines.specs.Shown.{pair, ofTracks, inPiece, howFar, percent, commandText, busyLine, idleLine, finishedLine, waitingShown, failure, wordsOf, reason, stoppedLine, shownWith, shownLine, widest};
 ghost use Rattle.lines.specs.Bench.{ExampleShown};
+use crate::WIDEST;
 use crate::counted_line;
 use crate::text::add;
 use crate::text::add_decimal;
@@ -29,7 +31,7 @@ use recorder::script::track_of;
 // Writes two numbers, each behind its words.
 fn add_pair(line: &mut [u8], at: usize, before: &[u8], x: u64, between: &[u8], y: u64) -> usize
     requires { ⌜ at + length (now before) + length (now between) + 40 ≤ length (now line) ⌝ }
-    ensures { λ r. ⌜ (Adds (pair (now (before .entry)) x (now (between .entry)) y) at (now (line .entry)) r (now (line .exit))) × (r ≤ at + length (now (before .entry)) + length (now (between .entry)) + 40) ⌝ }
+    ensures { λ r. ⌜ (Behind (pair (now (before .entry)) x (now (between .entry)) y) at (now (line .entry)) r (now (line .exit))) × (r ≤ at + length (now (before .entry)) + length (now (between .entry)) + 40) ⌝ }
 {
     let a = add(line, at, before);
     let b = add_decimal(line, a, x);
@@ -40,7 +42,7 @@ fn add_pair(line: &mut [u8], at: usize, before: &[u8], x: u64, between: &[u8], y
 // Writes a command and its track of so many.
 fn add_track(line: &mut [u8], at: usize, name: &[u8], track: u16, tracks: u8) -> usize
     requires { ⌜ at + length (now name) + 52 ≤ length (now line) ⌝ }
-    ensures { λ r. ⌜ (Adds (now (name .entry) ++ ofTracks track tracks) at (now (line .entry)) r (now (line .exit))) × (r ≤ at + length (now (name .entry)) + 52) ⌝ }
+    ensures { λ r. ⌜ (Behind (now (name .entry) ++ ofTracks track tracks) at (now (line .entry)) r (now (line .exit))) × (r ≤ at + length (now (name .entry)) + 52) ⌝ }
 {
     let a = add(line, at, name);
     add_pair(line, a, b", track ", track as u64, b" of ", tracks as u64)
@@ -49,7 +51,7 @@ fn add_track(line: &mut [u8], at: usize, name: &[u8], track: u16, tracks: u8) ->
 // Writes where a WRITE is: in the pause, or in a track of so many.
 fn add_piece(line: &mut [u8], at: usize, track: u16, tracks: u8) -> usize
     requires { ⌜ at + 57 ≤ length (now line) ⌝ }
-    ensures { λ r. ⌜ (Adds (codes "WRITE" ++ inPiece track tracks) at (now (line .entry)) r (now (line .exit))) × (r ≤ at + 57) ⌝ }
+    ensures { λ r. ⌜ (Behind (codes "WRITE" ++ inPiece track tracks) at (now (line .entry)) r (now (line .exit))) × (r ≤ at + 57) ⌝ }
 {
     if track == 0 {
         return add(line, at, b"WRITE, pause");
@@ -60,7 +62,7 @@ fn add_piece(line: &mut [u8], at: usize, track: u16, tracks: u8) -> usize
 // Writes a WRITE from a block of its piece on, which has so many.
 fn add_write(line: &mut [u8], at: usize, track: u16, tracks: u8, first: u32, blocks: u32) -> usize
     requires { ⌜ at + 110 ≤ length (now line) ⌝ }
-    ensures { λ r. ⌜ (Adds (codes "WRITE" ++ inPiece track tracks ++ howFar first blocks) at (now (line .entry)) r (now (line .exit))) × (r ≤ at + 110) ⌝ }
+    ensures { λ r. ⌜ (Behind (codes "WRITE" ++ inPiece track tracks ++ howFar first blocks) at (now (line .entry)) r (now (line .exit))) × (r ≤ at + 110) ⌝ }
 {
     let a = add_piece(line, at, track, tracks);
     let b = add_pair(line, a, b", ", first as u64, b" of ", blocks as u64);
@@ -70,7 +72,7 @@ fn add_write(line: &mut [u8], at: usize, track: u16, tracks: u8, first: u32, blo
 // Writes a command and a progress as a percentage.
 fn add_percent(line: &mut [u8], at: usize, name: &[u8], progress: u16) -> usize
     requires { ⌜ at + length (now name) + 45 ≤ length (now line) ⌝ }
-    ensures { λ r. ⌜ (Adds (now (name .entry) ++ percent progress) at (now (line .entry)) r (now (line .exit))) × (r ≤ at + length (now (name .entry)) + 45) ⌝ }
+    ensures { λ r. ⌜ (Behind (now (name .entry) ++ percent progress) at (now (line .entry)) r (now (line .exit))) × (r ≤ at + length (now (name .entry)) + 45) ⌝ }
 {
     let tenths = progress as u64 * 1000 / 65536;
     let a = add(line, at, name);
@@ -81,7 +83,7 @@ fn add_percent(line: &mut [u8], at: usize, name: &[u8], progress: u16) -> usize
 // Writes a command and what follows its name.
 fn add_command(line: &mut [u8], at: usize, op: Op, tracks: u8, blocks: u32, progress: u16) -> usize
     requires { ⌜ at + 110 ≤ length (now line) ⌝ }
-    ensures { λ r. ⌜ (Adds (commandText op tracks blocks progress) at (now (line .entry)) r (now (line .exit))) × (r ≤ at + 110) ⌝ }
+    ensures { λ r. ⌜ (Behind (commandText op tracks blocks progress) at (now (line .entry)) r (now (line .exit))) × (r ≤ at + 110) ⌝ }
 {
     match op {
         Op::GetConfiguration => add(line, at, b"GET CONFIGURATION"),
@@ -105,10 +107,10 @@ fn add_command(line: &mut [u8], at: usize, op: Op, tracks: u8, blocks: u32, prog
 
 // The line of a command that waits for its reply, in a job of so many tracks. The piece of a WRITE has so many blocks; the progress is the
 // latest of a polling.
-pub fn busy_line(op: Op, tracks: u8, blocks: u32, progress: u16, out: &mut [u8]) -> Made
+fn busy_line(op: Op, tracks: u8, blocks: u32, progress: u16, out: &mut [u8]) -> Made
     ensures { λ r. ⌜ Writes widest (busyLine op tracks blocks progress) r (now (out .entry)) (now (out .exit)) ⌝ }
 {
-    let mut line = [0u8; 128];
+    let mut line = [0u8; WIDEST];
     let a = add(&mut line, 0, b"busy: ");
     let b = add_command(&mut line, a, op, tracks, blocks, progress);
     let end = add(&mut line, b, b"\n");
@@ -116,14 +118,14 @@ pub fn busy_line(op: Op, tracks: u8, blocks: u32, progress: u16, out: &mut [u8])
 }
 
 // The line before any order.
-pub fn idle_line(out: &mut [u8]) -> Made
+fn idle_line(out: &mut [u8]) -> Made
     ensures { λ r. ⌜ Writes widest idleLine r (now (out .entry)) (now (out .exit)) ⌝ }
 {
     fill(b"idle\n", out)
 }
 
 // The line of a job that is done.
-pub fn finished_line(count: u64, out: &mut [u8]) -> Made
+fn finished_line(count: u64, out: &mut [u8]) -> Made
     ensures { λ r. ⌜ Writes widest (finishedLine count) r (now (out .entry)) (now (out .exit)) ⌝ }
 {
     counted_line(b"finished, commands given: ", count, out)
@@ -139,7 +141,7 @@ pub fn waiting_line(count: u64, out: &mut [u8]) -> Made
 // Writes the triple of 12.
 fn add_triple(line: &mut [u8], at: usize, sense: Sense) -> usize
     requires { ⌜ at + 27 ≤ length (now line) ⌝ }
-    ensures { λ r. ⌜ (Adds (failure sense) at (now (line .entry)) r (now (line .exit))) × (r ≤ at + 27) ⌝ }
+    ensures { λ r. ⌜ (Behind (failure sense) at (now (line .entry)) r (now (line .exit))) × (r ≤ at + 27) ⌝ }
 {
     let triple = [sense.key, sense.asc, sense.ascq];
     let a = add(line, at, b"drive failed with ");
@@ -149,7 +151,7 @@ fn add_triple(line: &mut [u8], at: usize, sense: Sense) -> usize
 // Writes the words of a number, of 12 with the triple.
 fn add_words(line: &mut [u8], at: usize, number: u8, sense: Sense) -> usize
     requires { ⌜ at + 49 ≤ length (now line) ⌝ }
-    ensures { λ r. ⌜ (Adds (wordsOf number sense) at (now (line .entry)) r (now (line .exit))) × (r ≤ at + 49) ⌝ }
+    ensures { λ r. ⌜ (Behind (wordsOf number sense) at (now (line .entry)) r (now (line .exit))) × (r ≤ at + 49) ⌝ }
 {
     match number {
         1 => add(line, at, b"block not of 512 bytes"),
@@ -178,7 +180,7 @@ fn add_words(line: &mut [u8], at: usize, number: u8, sense: Sense) -> usize
 // Writes why a job stopped at the start of a line.
 fn add_reason(line: &mut [u8], number: u8, sense: Sense) -> usize
     requires { ⌜ 98 ≤ length (now line) ⌝ }
-    ensures { λ r. ⌜ (Adds (reason number sense) 0 (now (line .entry)) r (now (line .exit))) × (r ≤ 98) ⌝ }
+    ensures { λ r. ⌜ (Behind (reason number sense) 0 (now (line .entry)) r (now (line .exit))) × (r ≤ 98) ⌝ }
 {
     let a = add(line, 0, b"stopped: ");
     let b = add_decimal(line, a, number as u64);
@@ -188,7 +190,7 @@ fn add_reason(line: &mut [u8], number: u8, sense: Sense) -> usize
 }
 
 // The line of a job that stopped with a number, 12 with its triple.
-pub fn stopped_line(number: u8, sense: Sense, count: u64, out: &mut [u8]) -> Made
+fn stopped_line(number: u8, sense: Sense, count: u64, out: &mut [u8]) -> Made
     ensures { λ r. ⌜ Writes widest (stoppedLine number sense count) r (now (out .entry)) (now (out .exit)) ⌝ }
 {
     let mut line = [0u8; 98];

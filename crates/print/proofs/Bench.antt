@@ -10,7 +10,7 @@ use Rattle.recorder.specs.Replies.{hasSense, senseOf, longWrite, isBusy, readFa
 use Rattle.recorder.specs.Answers.{cdbOf}
 use Rattle.recorder.specs.Rules.{otherProfile, unsuitable}
 use Rattle.recorder.specs.Job.{inOrder, standsIn, takeOf, giveOf}
-use Rattle.lines.specs.Text.{codes, parted, leading, decimal}
+use Rattle.ascii.specs.Text.{codes, parted, leading, decimal}
 use Rattle.lines.specs.Lines.{commandLine, countedLine, waitingLine, stopText, stopLine, failedLine}
 use Rattle.print.specs.Run.{cut, inputBlocks, fed, begunWith}
 use Rattle.print.specs.Bench.{ExampleTexts}

@@ -7,7 +7,7 @@ use lib.ListN.{take, replicate}
 use Rattle.mmc.specs.OrderBlock.{orderBytes}
 use Rattle.mmc.specs.ReplyBlock.{replyOf, replyBytes}
 use Rattle.mmc.specs.Bench.{oneData}
-use Rattle.lines.specs.Text.{codes}
+use Rattle.ascii.specs.Text.{codes}
 use Rattle.print.specs.Run.{printed}
 
 -- "that first order"

@@ -10,7 +10,7 @@ use Rattle.recorder.specs.Replies.{hasSense, senseOf, longWrite, isBusy, readFa
 use Rattle.recorder.specs.Answers.{cdbOf}
 use Rattle.recorder.specs.Rules.{otherProfile, unsuitable}
 use Rattle.recorder.specs.Job.{inOrder, standsIn, takeOf, giveOf}
-use Rattle.lines.specs.Text.{codes, parted, leading, decimal}
+use Rattle.ascii.specs.Text.{codes, parted, leading, decimal}
 use Rattle.lines.specs.Lines.{countedLine}
 use Rattle.lines.specs.Shown.{pair, howFar, percent, busyLine, idleLine, finishedLine, waitingShown, failure, wordsOf, reason, stoppedLine}
 use Rattle.watch.specs.Bench.{ExampleStages}

@@ -8,7 +8,7 @@ use Rattle.mmc.specs.OrderBlock.{orderBytes}
 use Rattle.mmc.specs.ReplyBlock.{replyOf, replyBytes}
 use Rattle.mmc.specs.Bench.{oneData}
 use Rattle.recorder.specs.Job.{takeOf}
-use Rattle.lines.specs.Text.{codes}
+use Rattle.ascii.specs.Text.{codes}
 use Rattle.watch.specs.Watch.{Stage, atFirst, begunWith, readOn}
 
 -- document 01's first order, taken, and then a read

@@ -1,5 +1,5 @@
 use borrow.Author.Needs.{needs}
-use Rattle.lines.specs.Text.{codes}
+use Rattle.ascii.specs.Text.{codes}
 use Rattle.lines.specs.Lines.{stopText}
 use Rattle.lines.proofs.Laws.{then}
 use Rattle.lines.proofs.add_stop.Statement.{statement}

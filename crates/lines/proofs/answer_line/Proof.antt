@@ -4,7 +4,7 @@ use Prim.Native.Nat.{_-_, _≤_}
 use native.Mathlib.Omega.{arith}
 use lib.ListN.{length, take, drop}
 use Rattle.recorder.specs.Answers.{bytesIn}
-use Rattle.lines.specs.Text.{codes}
+use Rattle.ascii.specs.Text.{codes}
 use Rattle.lines.specs.Lines.{doneLine}
 use Rattle.lines.proofs.Laws.{used-bytes, within}
 use Rattle.lines.proofs.answer_line.Statement.{statement}

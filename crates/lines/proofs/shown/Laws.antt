@@ -13,7 +13,7 @@ use Rattle.recorder.specs.declared.job.Recorder.{Recorder}
 use Rattle.panel.specs.Panel.{fractionOf, times, Fraction, Shown, idle, busy, finished, stopped, shownOf, panelAs, Displays}
 use Rattle.panel.specs.declared.display.Panel.{Panel}
 use Rattle.panel.specs.declared.display.Panel.the-variants as D
-use Rattle.lines.specs.Text.{codes}
+use Rattle.ascii.specs.Text.{codes}
 use Rattle.lines.specs.Shown.{ofTracks, inPiece, words, wordsOf, idleLine, busyLine, finishedLine, stoppedLine, lineAs, shownWith}
 
 -- a WRITE that is not of the pause is of a track

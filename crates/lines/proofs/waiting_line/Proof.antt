@@ -1,6 +1,6 @@
 use borrow.Author.Needs.{needs}
 use native.Mathlib.Omega.{arith}
-use Rattle.lines.specs.Text.{codes}
+use Rattle.ascii.specs.Text.{codes}
 use Rattle.lines.specs.Lines.{waitingLine}
 use Rattle.lines.proofs.Bench.{example-lines}
 use Rattle.lines.proofs.Laws.{within}

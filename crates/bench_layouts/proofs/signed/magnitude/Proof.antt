@@ -2,11 +2,10 @@ use native.Mathlib.Omega.{arith}
 use mathlib.Core.Path.{_≡_, _∙_}
 use lib.IntN.{pos, negsuc, _-ℤ_}
 use lib.Signed.{mag}
-use borrow.Author.Needs.{needs}
 use mir.Syntax.{w64}
 use mir.Val.{toZ, ofZ}
 use mir.Facts.{toZ-ofZ}
-use Rattle.bench_layouts.proofs.signed.Flip.{flip-fits, negative, natural}
+use Rattle.bench_layouts.proofs.signed.Flip.{flip-fits, negative, negative-size, natural}
 use Rattle.bench_layouts.proofs.signed.magnitude.Statement.{statement}
 use Rattle.bench_layouts.proofs.signed.magnitude.Tie as tie
 
@@ -33,10 +32,10 @@ cast-result-2 c =
     rw (kept (c .before), e) (tt, record { fits = omega (arith, c .before .fits .z .sfits) })
 
 returns : tie.Need-returns
-returns c = search needs
+returns c = rw (kept (c .before), rest c) (negative-size (c .before .args .z) (rw (kept (c .before)) at (c .if1 .taken)))
 
 returns-2 : tie.Need-returns-2
-returns-2 c = search needs
+returns-2 c = rw (kept (c .before))
 
 pub magnitude-spec : {M : Type 1} → statement M
 magnitude-spec =

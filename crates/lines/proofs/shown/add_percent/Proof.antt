@@ -1,7 +1,7 @@
 use borrow.Author.Needs.{needs}
 use Prim.Native.Nat.{_/_, _%_}
 use native.Mathlib.Omega.{arith}
-use Rattle.lines.specs.Text.{codes}
+use Rattle.ascii.specs.Text.{codes}
 use Rattle.lines.specs.Shown.{pair, tenths, percent}
 use Rattle.lines.proofs.Laws.{then}
 use Rattle.lines.proofs.shown.add_percent.Statement.{statement}

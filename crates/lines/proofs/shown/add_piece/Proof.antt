@@ -1,6 +1,6 @@
 use borrow.Author.Needs.{needs}
 use native.Mathlib.Omega.{arith}
-use Rattle.lines.specs.Text.{codes}
+use Rattle.ascii.specs.Text.{codes}
 use Rattle.lines.proofs.shown.Laws.{in-track}
 use Rattle.lines.proofs.shown.add_piece.Statement.{statement}
 use Rattle.lines.proofs.shown.add_piece.Tie as tie

@@ -1,6 +1,6 @@
 use borrow.Author.Needs.{needs}
 use native.Mathlib.Omega.{arith}
-use Rattle.lines.specs.Text.{codes}
+use Rattle.ascii.specs.Text.{codes}
 use Rattle.lines.specs.Shown.{wordsOf}
 use Rattle.lines.proofs.shown.Laws.{other}
 use Rattle.lines.proofs.shown.add_words.Statement.{statement}

@@ -1,6 +1,6 @@
 use borrow.Author.Needs.{needs}
 use native.Mathlib.Omega.{arith}
-use Rattle.lines.specs.Text.{codes}
+use Rattle.ascii.specs.Text.{codes}
 use Rattle.lines.specs.Shown.{idleLine}
 use Rattle.lines.proofs.shown.idle_line.Statement.{statement}
 use Rattle.lines.proofs.shown.idle_line.Tie as tie

@@ -2,8 +2,8 @@ use mathlib.Core.Path.{_≡_}
 use Prim.Native.Nat.{_-_}
 use borrow.Author.Needs.{needs}
 use lib.ListN.{length}
-use Rattle.bench_layouts.proofs.readers.put_tracks.Statement.{statement}
-use Rattle.bench_layouts.proofs.readers.put_tracks.Tie as tie
+use Rattle.bench_layouts.proofs.readers.add_tracks.Statement.{statement}
+use Rattle.bench_layouts.proofs.readers.add_tracks.Tie as tie
 
 abbrev Inv-loop : tie.InvT-loop
 Inv-loop line₀ at kinds count tracks n end₀ i₀ line end i = length line ≡ length line₀
@@ -14,14 +14,14 @@ abbrev μ-loop : tie.MeasureT-loop
 loop-holds : tie.Need-loop-holds Inv-loop μ-loop
 loop-holds c = search needs
 
-mul-put-track : tie.Need-mul-put-track Inv-loop μ-loop
-mul-put-track c = search needs
+mul-add-track : tie.Need-mul-add-track Inv-loop μ-loop
+mul-add-track c = search needs
 
-array-copy-out-put-track : tie.Need-array-copy-out-put-track Inv-loop μ-loop
-array-copy-out-put-track c = search needs
+array-copy-out-add-track : tie.Need-array-copy-out-add-track Inv-loop μ-loop
+array-copy-out-add-track c = search needs
 
-put-track-requires : tie.Need-put-track-requires Inv-loop μ-loop
-put-track-requires c κs = search needs
+add-track-requires : tie.Need-add-track-requires Inv-loop μ-loop
+add-track-requires c κs = search needs
 
 add-i : tie.Need-add-i Inv-loop μ-loop
 add-i c = search needs
@@ -44,16 +44,16 @@ same-length-2 c = search needs
 returns-2 : tie.Need-returns-2 Inv-loop μ-loop
 returns-2 c = search needs
 
-pub put-tracks-spec : {M : Type 1} → statement M
-put-tracks-spec =
+pub add-tracks-spec : {M : Type 1} → statement M
+add-tracks-spec =
     tie.close
     (tie.spec
     Inv-loop
     μ-loop
     loop-holds
-    mul-put-track
-    array-copy-out-put-track
-    put-track-requires
+    mul-add-track
+    array-copy-out-add-track
+    add-track-requires
     add-i
     loop-less
     loop-again

@@ -1,7 +1,7 @@
 use borrow.Author.Needs.{needs}
 use borrow.Author.Tests.{lt-ltb, le-ltb}
-use Rattle.lines.proofs.text.hex_digit.Statement.{statement}
-use Rattle.lines.proofs.text.hex_digit.Tie as tie
+use Rattle.ascii.proofs.hex_digit.Statement.{statement}
+use Rattle.ascii.proofs.hex_digit.Tie as tie
 
 add-result : tie.Need-add-result
 add-result c = search needs

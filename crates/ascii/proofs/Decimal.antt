@@ -1,12 +1,14 @@
 -- The digits that `io::decimal` writes are the decimal of the definition.
 use mathlib.Core.Path.{_≡_, refl}
+use mathlib.Core.List.{[], _∷_}
 use Prim.Native.Nat.{ℕ, zero, suc, _-_, _/_, _%_, _^_, _≤_, _<_}
 use native.Mathlib.Nat.{pow-suc, pow-le-pow-right}
 use native.Mathlib.Decide.{decLe}
 use native.Mathlib.Omega.{arith}
+use lib.ListN.{length, length-append}
 use borrow.Author.Tests.{lt-ltb}
 use Rattle.io.specs.Digits.{glyph, digits, Fewest}
-use Rattle.lines.specs.Text.{digit, leading, decimal}
+use Rattle.ascii.specs.Text.{digit, leading, decimal}
 
 -- a number of exactly k digits, where 0 has none
 abbrev Sized : ℕ → ℕ → Type 0
@@ -46,8 +48,8 @@ before-last (suc k) n h =
     let s : Sized (suc (suc k)) n = (rw e at (h .2 (omega arith)), h .1) in
     (shorter (suc k) n s, enough (suc k) n s)
 
--- a number of 64 bits has at most 20
-pub few : (k n : ℕ) → n < 2 ^ 64 → Fewest 10 1 n k → k ≤ 20
+-- a number of 64 bits has at most 20 digits
+few : (k n : ℕ) → n < 2 ^ 64 → Fewest 10 1 n k → k ≤ 20
 few k n f h = of (decLe k 20)
   where
     of : Dec (k ≤ 20) → k ≤ 20
@@ -62,3 +64,11 @@ pub spelled : (k n : ℕ) → Fewest 10 1 n k → digits 10 k n ≡ decimal n
 unfolding decimal
 spelled zero n h = absurd (omega arith)
 spelled (suc k) n h = let b = before-last k n h in rw (front k n (n / 10) (b .1) (b .0), last-digit n)
+
+-- so its text has at most 20 codes
+size : (k n : ℕ) → length (digits 10 k n) ≡ k
+size zero n = refl
+size (suc k) n = omega (arith, length-append (digits 10 k (n / 10)) (glyph (n % 10) ∷ []), size k (n / 10))
+
+pub short : (k n : ℕ) → n < 2 ^ 64 → Fewest 10 1 n k → length (decimal n) ≤ 20
+short k n f h = rw (← spelled k n h) (omega (arith, size k n, few k n f h))

@@ -1,0 +1,4 @@
+mod Laws
+mod Hex
+mod Decimal
+mod Bench

@@ -1,2 +1,0 @@
-mod Decimal
-mod Hex
