@@ -14,6 +14,7 @@ use mmc::bytes::flag;
 use mmc::order::Kind;
 use mmc::order::Method;
 use mmc::order::Order;
+use mmc::order::ROWS;
 use mmc::order::Track;
 use mmc::order_block::read_order;
 use mmc::refusals::Check;
@@ -29,6 +30,7 @@ use mmc::times::Time;
 use mmc::times::TimeAnswer;
 use mmc::times::address_of;
 use mmc::times::time_of;
+use mmc::units::BlockCount;
 
 // Writes a refusal with its number.
 pub(crate) fn add_refusal(line: &mut [u8], r: Refusal) -> usize {
@@ -102,25 +104,33 @@ fn flags_number(o: Order) -> u64
     (flag(o.keep, 1) + flag(o.protect, 2) + flag(o.immed, 4) + flag(o.erase, 8)) as u64
 }
 
-// Writes a track: its kind where kinds are asked for, and its length.
-fn add_track(line: &mut [u8], at: usize, kinds: bool, t: Track) -> usize {
+// Writes a track: its kind and its length.
+fn add_track(line: &mut [u8], at: usize, t: Track) -> usize {
     let kind = t.kind;
-    let length = t.length.0 as u64;
-    if kinds {
-        let next = add_next(line, at, kind_number(kind));
-        add_next(line, next, length)
-    } else {
-        add_next(line, at, length)
-    }
+    let next = add_next(line, at, kind_number(kind));
+    add_next(line, next, t.length.0 as u64)
 }
 
 // Writes the first so many tracks.
-fn add_tracks(line: &mut [u8], at: usize, kinds: bool, count: u8, tracks: [Track; 99]) -> usize {
+fn add_tracks(line: &mut [u8], at: usize, count: u8, tracks: [Track; ROWS]) -> usize {
     let n = count as usize;
     let mut end = at;
     let mut i: usize = 0;
     while i < tracks.len() && i < n {
-        end = add_track(line, end, kinds, tracks[i]);
+        end = add_track(line, end, tracks[i]);
+        i = i + 1;
+    }
+    end
+}
+
+// Writes the first so many lengths.
+fn add_lengths(line: &mut [u8], at: usize, count: u8, lengths: [BlockCount; ROWS]) -> usize {
+    let n = count as usize;
+    let mut end = at;
+    let mut i: usize = 0;
+    while i < lengths.len() && i < n {
+        let length = lengths[i];
+        end = add_next(line, end, length.0 as u64);
         i = i + 1;
     }
     end
@@ -134,7 +144,7 @@ fn add_order(line: &mut [u8], o: Order) -> usize {
     let flags = add_first(line, method_number(method));
     let counted = add_next(line, flags, flags_number(o));
     let listed = add_next(line, counted, count as u64);
-    add_tracks(line, listed, true, count, tracks)
+    add_tracks(line, listed, count, tracks)
 }
 
 // Answers `order-read`.
@@ -168,10 +178,10 @@ fn reply_line(b: &[u8], line: &mut [u8]) -> usize {
 fn add_sheet(line: &mut [u8], s: Sheet) -> usize {
     let kind = s.kind;
     let count = s.count;
-    let tracks = s.tracks;
+    let lengths = s.lengths;
     let counted = add_first(line, kind_number(kind));
     let listed = add_next(line, counted, count as u64);
-    add_tracks(line, listed, false, count, tracks)
+    add_lengths(line, listed, count, lengths)
 }
 
 // Answers `sheet-read`.

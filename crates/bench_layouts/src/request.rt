@@ -39,6 +39,7 @@ use mmc::bytes::number32;
 use mmc::order::Kind;
 use mmc::order::Method;
 use mmc::order::Order;
+use mmc::order::ROWS;
 use mmc::order::Track;
 use mmc::units::BlockAddress;
 use mmc::units::BlockCount;
@@ -139,12 +140,12 @@ fn track_at(b: &[u8], at: usize) -> Track {
 }
 
 // The tracks of 99 rows.
-fn tracks_in(rows: &[u8]) -> [Track; 99] {
+fn tracks_in(rows: &[u8]) -> [Track; ROWS] {
     let none = Track {
         kind: Kind::Audio,
         length: BlockCount(0),
     };
-    let mut tracks = [none; 99];
+    let mut tracks = [none; ROWS];
     let mut i: usize = 0;
     while i < tracks.len() {
         tracks[i] = track_at(rows, 5 * i);

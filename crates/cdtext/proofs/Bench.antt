@@ -7,11 +7,11 @@ use Rattle.mmc.specs.Refusals.{pass}
 use Rattle.cdtext.specs.Check.{bitStep, remainderFrom, checkOf}
 use Rattle.cdtext.specs.Titles.{titlesFrom, titleCount, allowed}
 use Rattle.cdtext.specs.Packs.{pack, placeAfter, textPack, textPacks, sizeRecord, sizePack, packsOf, packs}
-use Rattle.cdtext.specs.Bench.{twoNames, twoNamesPacks, ExamplePacks}
+use Rattle.cdtext.specs.Bench.{stopNames, stopNamesPacks, ExamplePacks}
 
-two-names : packs twoNames ≡ pass twoNamesPacks
+stop-names : packs stopNames ≡ pass stopNamesPacks
 unfolding bitStep remainderFrom checkOf titlesFrom titleCount allowed pack placeAfter textPack textPacks sizeRecord sizePack packsOf packs
-two-names = refl
+stop-names = refl
 
 position : take 4 (textPack (replicate 30 0x41 ++ 0 ∷ []) 2) ≡ 0x80 ∷ 1 ∷ 2 ∷ 15 ∷ []
 unfolding bitStep remainderFrom checkOf pack placeAfter textPack
@@ -48,7 +48,7 @@ example-packs =
       pack-42 = refl;
       pack-43 = refl;
       pack-44 = refl;
-      two-names = two-names;
+      stop-names = stop-names;
       first-character = first-character;
       before-first = before-first;
       last-character = last-character;

@@ -8,3 +8,5 @@ pub mod Reading
 pub mod Laws
 pub mod Making
 pub mod Runs
+pub mod Bearing
+pub mod Comparing

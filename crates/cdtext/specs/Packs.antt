@@ -53,8 +53,11 @@ mostPosition = 15
 
 -- "A pack bears the track of the title, ending zero included, in which its text begins; character position is how many of that
 -- title's characters stand in earlier packs, at most 15."; type 80h, "one block, number 0"
+abbrev pub textAt : Place → ℕ → List ℕ → List ℕ
+textAt place k text = pack 0x80 (place .track) k (min (place .count) mostPosition) text
+
 unfoldable pub textPack : List ℕ → ℕ → List ℕ
-textPack run k = pack 0x80 (placeAt run k .track) k (min (placeAt run k .count) mostPosition) (take 12 (drop (12 * k) run))
+textPack run k = textAt (placeAt run k) k (take 12 (drop (12 * k) run))
 
 -- the first k of them
 unfoldable pub textPacks : List ℕ → ℕ → List ℕ
@@ -139,6 +142,14 @@ pub record Fits (run : List ℕ) (room : ℕ) : Type 0 where
   pub short : length run ≤ longestRun
   pub some : 1 ≤ length run
   pub holds : 18 * (packsFor run + 3) ≤ room
+
+-- what the inner readers need: bytes for the packs of the titles that their own text gives
+pub record Bears (run : List ℕ) (n : ℕ) (b : List ℕ) : Type 0 where
+  pub text : run ≡ runIn b
+  pub packs : n ≡ packsFor run
+  pub few : titleCount run ≤ mostTitles
+  pub short : n + 3 ≤ mostPacks
+  pub long : length b ≡ 18 * (n + 3)
 
 -- what makers and readers promise of the lent buffer: of what has to go there, the answer, and the buffer before and after
 pub record FillsPacks (bytes : Outcome (List ℕ)) (r : Made) (before after : List ℕ) : Type 0 where

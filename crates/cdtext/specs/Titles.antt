@@ -14,8 +14,11 @@ abbrev pub isCharacter : ℕ → Bool
 isCharacter x = leb 0x20 x && leb x lastCharacter
 
 -- "each title 1 to 160 characters"
+abbrev pub longestTitle : ℕ
+longestTitle = 160
+
 abbrev pub titleLength : ℕ → Bool
-titleLength n = leb 1 n && leb n 160
+titleLength n = leb 1 n && leb n longestTitle
 
 -- "and ended by a zero byte": a run of titles, of whose first c characters stand before it
 unfoldable pub titlesFrom : ℕ → List ℕ → Bool

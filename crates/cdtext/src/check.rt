@@ -262,18 +262,18 @@ const REMAINDERS: [u16; 256] = [
     0x1EF0,
 ];
 
-// The table, with its rule at each entry.
-fn remainders() -> [u16; 256]
+// The table, with its rule at each entry. It is copied at each use: who makes or compares many packs takes it once, and lends it.
+pub(crate) fn remainders() -> [u16; 256]
     ensures { λ r. ⌜ AreRemainders r ⌝ }
 {
     REMAINDERS
 }
 
-// The check bytes over b, high byte first, as a number.
-pub fn check_of(b: &[u8]) -> u16
+// The check bytes over b by the table, high byte first, as a number.
+pub(crate) fn check_by(table: &[u16], b: &[u8]) -> u16
+    requires { ⌜ AreRemainders (now table) ⌝ }
     ensures { λ r. ⌜ r ≡ checkOf (now (b .entry)) ⌝ }
 {
-    let table = remainders();
     let mut r: u16 = 0;
     let mut i: usize = 0;
     while i < b.len() {
@@ -282,4 +282,12 @@ pub fn check_of(b: &[u8]) -> u16
         i = i + 1;
     }
     !r
+}
+
+// The check bytes over b, high byte first, as a number.
+pub fn check_of(b: &[u8]) -> u16
+    ensures { λ r. ⌜ r ≡ checkOf (now (b .entry)) ⌝ }
+{
+    let table = remainders();
+    check_by(&table, b)
 }

@@ -4,16 +4,19 @@ ghost use mathlib.Core.Bool.{true};
 ghost use mathlib.Core.List.{_++_};
 ghost use Prim.Native.Nat.{_+_, _*_, _/_, _≤_, _<_, min};
 ghost use lib.ListN.{length, take, drop};
-ghost use Rattle.basics.specs.Bytes.{sameBytes};
+ghost use Rattle.basics.specs.Bytes.{bytes16, sameBytes};
+ghost use Rattle.cdtext.specs.Check.{AreRemainders, checkOf};
 ghost use Rattle.cdtext.specs.Titles.{titleCount};
 ghost use Rattle.cdtext.specs.Bench.{ExamplePacks};
-ghost use Rattle.cdtext.specs.Packs.{pack, nextPlace, placeAfter, textPacks, packsFor, sizeRecord, sizePack, sizePacks, packsOf, packs, textIn, trimmed, packsSize, areBytes, runIn, readPacks, Fits, FillsTitles, MakesPacks, ReadsPacks};
-use crate::check::check_of;
+ghost use Rattle.cdtext.specs.Packs.{mostPosition, longestRun, pack, textAt, nextPlace, placeAfter, textPacks, packsFor, sizeRecord, sizePack, sizePacks, packsOf, packs, textIn, trimmed, packsSize, areBytes, runIn, readPacks, Fits, Bears, FillsTitles, MakesPacks, ReadsPacks};
+use crate::check::check_by;
+use crate::check::remainders;
 use crate::refusals::Made;
 use crate::refusals::Read;
 use crate::refusals::Refusal;
 use crate::titles::count_titles;
 use mmc::bytes::fill;
+use mmc::bytes::same;
 
 // Where some text ends: the track of the title that goes on, and how many of its characters have come.
 pub(crate) struct Place {
@@ -21,12 +24,21 @@ pub(crate) struct Place {
     pub count: usize,
 }
 
-// A run of more bytes has more than 252 text packs, and with the size packs more than 255.
-const LONGEST_RUN: usize = 3024;
+// Where the first title begins.
+const FIRST_PLACE: Place = Place { track: 1, count: 0 };
 
-// A pack of 18 bytes; text that is shorter than twelve bytes is filled with zeros.
-fn pack_of(sort: u8, track: u8, number: u8, position: u8, text: &[u8]) -> [u8; 18]
-    requires { ⌜ length (now text) ≤ 12 ⌝ }
+// The most packs, the three size packs among them.
+const MOST_PACKS: usize = 255;
+
+// The bytes of the most packs.
+const MOST_BYTES: usize = 18 * MOST_PACKS;
+
+// A longer run has more packs: each text pack bears twelve bytes of it.
+const LONGEST_RUN: usize = 12 * (MOST_PACKS - 3);
+
+// A pack of 18 bytes, its check bytes by the table; text that is shorter than twelve bytes is filled with zeros.
+fn pack_of(table: &[u16], sort: u8, track: u8, number: u8, position: u8, text: &[u8]) -> [u8; 18]
+    requires { ⌜ AreRemainders (now table) × (length (now text) ≤ 12) ⌝ }
     ensures { λ r. ⌜ r ≡ pack sort track number position (now (text .entry)) ⌝ }
 {
     let mut p = [0u8; 18];
@@ -35,7 +47,7 @@ fn pack_of(sort: u8, track: u8, number: u8, position: u8, text: &[u8]) -> [u8; 1
     p[2] = number;
     p[3] = position;
     fill(text, &mut p[4..16]);
-    let check = check_of(&p[0..16]);
+    let check = check_by(table, &p[0..16]);
     p[16] = (check / 256) as u8;
     p[17] = (check % 256) as u8;
     p
@@ -86,7 +98,7 @@ fn place_after(p: Place, text: &[u8]) -> Place
 
 // The character position: at most 15.
 fn position_of(count: usize) -> u8
-    ensures { λ r. ⌜ r ≡ min count 15 ⌝ }
+    ensures { λ r. ⌜ r ≡ min count mostPosition ⌝ }
 {
     if count < 15 { count as u8 } else { 15 }
 }
@@ -100,17 +112,18 @@ fn piece_end(at: usize, end: usize) -> usize
 }
 
 // Writes the first n text packs.
-fn put_texts(run: &[u8], n: usize, out: &mut [u8])
-    requires { ⌜ Fits (now run) (length (now out)) × (n ≡ packsFor (now run)) ⌝ }
+fn put_texts(table: &[u16], run: &[u8], n: usize, out: &mut [u8])
+    requires { ⌜ AreRemainders (now table) × Fits (now run) (length (now out)) × (n ≡ packsFor (now run)) ⌝ }
     ensures { λ _. ⌜ now (out .exit) ≡ textPacks (now (run .entry)) n ++ drop (18 * n) (now (out .entry)) ⌝ }
 {
-    let mut place = Place { track: 1, count: 0 };
+    let mut place = FIRST_PLACE;
     let mut k: usize = 0;
     while k < n {
         let at = 12 * k;
         let end = piece_end(at, run.len());
         let text = &run[at..end];
         let p = pack_of(
+            table,
             0x80,
             place.track as u8,
             k as u8,
@@ -140,28 +153,28 @@ fn size_record(titles: usize, n: usize) -> [u8; 36]
 }
 
 // The i-th of the three size packs, behind n text packs.
-fn size_pack(sizes: [u8; 36], n: usize, i: usize) -> [u8; 18]
-    requires { ⌜ (i < 3) × (n + 2 < 256) ⌝ }
+fn size_pack(table: &[u16], sizes: [u8; 36], n: usize, i: usize) -> [u8; 18]
+    requires { ⌜ AreRemainders (now table) × (i < 3) × (n + 2 < 256) ⌝ }
     ensures { λ r. ⌜ r ≡ sizePack sizes n i ⌝ }
 {
     let at = 12 * i;
-    pack_of(0x8F, i as u8, (n + i) as u8, 0, &sizes[at..at + 12])
+    pack_of(table, 0x8F, i as u8, (n + i) as u8, 0, &sizes[at..at + 12])
 }
 
-// Writes the three size packs behind n text packs.
-fn put_sizes(titles: usize, n: usize, out: &mut [u8])
-    requires { ⌜ (titles < 256) × (n + 2 < 256) × (18 * (n + 3) ≤ length (now out)) ⌝ }
-    ensures { λ _. ⌜ now (out .exit) ≡ take (18 * n) (now (out .entry)) ++ sizePacks (sizeRecord titles n) n ++ drop (18 * (n + 3)) (now (out .entry)) ⌝ }
+// Writes the three size packs that stand behind n text packs.
+fn put_sizes(table: &[u16], titles: usize, n: usize, out: &mut [u8])
+    requires { ⌜ AreRemainders (now table) × (titles < 256) × (n + 2 < 256) × (54 ≤ length (now out)) ⌝ }
+    ensures { λ _. ⌜ now (out .exit) ≡ sizePacks (sizeRecord titles n) n ++ drop 54 (now (out .entry)) ⌝ }
 {
     let sizes = size_record(titles, n);
-    put_pack(out, n, size_pack(sizes, n, 0));
-    put_pack(out, n + 1, size_pack(sizes, n, 1));
-    put_pack(out, n + 2, size_pack(sizes, n, 2));
+    put_pack(out, 0, size_pack(table, sizes, n, 0));
+    put_pack(out, 1, size_pack(table, sizes, n, 1));
+    put_pack(out, 2, size_pack(table, sizes, n, 2));
 }
 
 // How many text packs a run of so many bytes fills.
 fn packs_for(length: usize) -> usize
-    requires { ⌜ length ≤ 3024 ⌝ }
+    requires { ⌜ length ≤ longestRun ⌝ }
     ensures { λ r. ⌜ r ≡ (length + 11) / 12 ⌝ }
 {
     (length + 11) / 12
@@ -172,9 +185,11 @@ fn put_packs(run: &[u8], titles: usize, out: &mut [u8])
     requires { ⌜ Fits (now run) (length (now out)) × (titles ≡ titleCount (now run)) ⌝ }
     ensures { λ _. ⌜ now (out .exit) ≡ packsOf (now (run .entry)) ++ drop (18 * (packsFor (now (run .entry)) + 3)) (now (out .entry)) ⌝ }
 {
+    let table = remainders();
     let n = packs_for(run.len());
-    put_texts(run, n, out);
-    put_sizes(titles, n, out);
+    put_texts(&table, run, n, out);
+    let at = 18 * n;
+    put_sizes(&table, titles, n, &mut out[at..]);
 }
 
 // Makes the packs of a run of titles: 17, 19, then 11.
@@ -203,7 +218,7 @@ fn packs_size(n: usize) -> bool
     if n < 72 {
         return false;
     }
-    if 4590 < n {
+    if MOST_BYTES < n {
         return false;
     }
     if n % 18 != 0 {
@@ -240,24 +255,73 @@ fn trimmed_length(text: &[u8]) -> usize
     0
 }
 
-// Whether two runs of bytes of one length are equal.
-fn same(s: &[u8], t: &[u8]) -> bool
-    requires { ⌜ length (now s) ≡ length (now t) ⌝ }
-    ensures { λ r. ⌜ r ≡ sameBytes (now (s .entry)) (now (t .entry)) ⌝ }
+// Whether the last two bytes of a pack are its check bytes.
+fn has_check(table: &[u16], p: &[u8]) -> bool
+    requires { ⌜ AreRemainders (now table) × (length (now p) ≡ 18) ⌝ }
+    ensures { λ r. ⌜ r ≡ sameBytes (bytes16 (checkOf (take 16 (now (p .entry))))) (drop 16 (now (p .entry))) ⌝ }
 {
-    let mut i: usize = 0;
-    while i < s.len() {
-        if s[i] != t[i] {
+    let check = check_by(table, &p[0..16]);
+    let bytes = [(check / 256) as u8, (check % 256) as u8];
+    same(&bytes, &p[16..18])
+}
+
+// Whether the bytes are the k-th text pack, where their text begins at the place.
+fn is_text(table: &[u16], place: Place, k: usize, p: &[u8]) -> bool
+    requires { ⌜ AreRemainders (now table) × (place .track < 256) × (k < 256) × (length (now p) ≡ 18) ⌝ }
+    ensures { λ r. ⌜ r ≡ sameBytes (textAt place k (take 12 (drop 4 (now (p .entry))))) (now (p .entry)) ⌝ }
+{
+    let header = [0x80, place.track as u8, k as u8, position_of(place.count)];
+    if !same(&header, &p[0..4]) {
+        return false;
+    }
+    has_check(table, p)
+}
+
+// Whether the first n packs of b are the text packs of a run. The run is named for the contract alone: b bears its text.
+fn are_texts(table: &[u16], run: &[u8], n: usize, b: &[u8]) -> bool
+    requires { ⌜ AreRemainders (now table) × Bears (now run) n (now b) ⌝ }
+    ensures { λ r. ⌜ r ≡ sameBytes (textPacks (now (run .entry)) n) (take (18 * n) (now (b .entry))) ⌝ }
+{
+    let mut place = FIRST_PLACE;
+    let mut k: usize = 0;
+    while k < n {
+        let at = 18 * k;
+        let p = &b[at..at + 18];
+        if !is_text(table, place, k, p) {
             return false;
         }
-        i = i + 1;
+        place = place_after(place, &p[4..16]);
+        k = k + 1;
     }
     true
 }
 
-// Whether b is the packs of a run of titles.
+// Whether the bytes are the three size packs that stand behind n text packs.
+fn are_sizes(table: &[u16], titles: usize, n: usize, b: &[u8]) -> bool
+    requires { ⌜ AreRemainders (now table) × (titles < 256) × (n + 2 < 256) ⌝ }
+    ensures { λ r. ⌜ r ≡ sameBytes (sizePacks (sizeRecord titles n) n) (now (b .entry)) ⌝ }
+{
+    let mut packs = [0u8; 54];
+    put_sizes(table, titles, n, &mut packs);
+    same(&packs, b)
+}
+
+// Whether b, which bears the text of a run, is its packs.
+fn are_packs(run: &[u8], titles: usize, n: usize, b: &[u8]) -> bool
+    requires { ⌜ Bears (now run) n (now b) × (titles ≡ titleCount (now run)) ⌝ }
+    ensures { λ r. ⌜ r ≡ sameBytes (packsOf (now (run .entry))) (now (b .entry)) ⌝ }
+{
+    let table = remainders();
+    if !are_texts(&table, run, n, b) {
+        return false;
+    }
+    let at = 18 * n;
+    are_sizes(&table, titles, n, &b[at..])
+}
+
+// Whether b is the packs of the run that its text gives.
 fn gives(run: &[u8], b: &[u8]) -> bool
-    requires { ⌜ length (now b) ≤ 4590 ⌝ }
+    requires { ⌜ (packsSize (length (now b)) ≡ true) × (now run ≡ runIn (now b)) ⌝ }
     ensures { λ r. ⌜ r ≡ areBytes (packs (now (run .entry))) (now (b .entry)) ⌝ }
 {
     let titles = count_titles(run);
@@ -267,13 +331,11 @@ fn gives(run: &[u8], b: &[u8]) -> bool
     if LONGEST_RUN < run.len() {
         return false;
     }
-    let n = b.len();
-    if n != 18 * (packs_for(run.len()) + 3) {
+    let n = packs_for(run.len());
+    if b.len() != 18 * (n + 3) {
         return false;
     }
-    let mut packs = [0u8; 4590];
-    put_packs(run, titles, &mut packs);
-    same(&packs[0..n], b)
+    are_packs(run, titles, n, b)
 }
 
 // Hands out the run that the text of b gives, where b is its packs: 18, then 11.
@@ -297,8 +359,10 @@ pub fn read_packs(b: &[u8], out: &mut [u8]) -> Read
     if !packs_size(b.len()) {
         return Read::Refused(Refusal::NoPacks);
     }
-    let mut text = [0u8; 3025];
-    put_text(b, b.len() / 18 - 3, &mut text);
-    let end = trimmed_length(&text) + 1;
+    let n = b.len() / 18 - 3;
+    let mut text = [0u8; LONGEST_RUN + 1];
+    put_text(b, n, &mut text);
+    let size = 12 * n;
+    let end = trimmed_length(&text[0..size]) + 1;
     read_run(&text[0..end], b, out)
 }

@@ -5,6 +5,12 @@ ghost use lib.Dec.{eqb};
 ghost use Rattle.basics.specs.Bytes.{if};
 ghost use Rattle.cdtext.specs.Titles.{isCharacter, titleLength, titleCount, allowed};
 
+// The most characters of a title.
+const LONGEST_TITLE: usize = 160;
+
+// The most titles: one for each track of a disc.
+const MOST_TITLES: usize = 99;
+
 fn is_character(x: u8) -> bool
     ensures { λ r. ⌜ r ≡ isCharacter x ⌝ }
 {
@@ -23,7 +29,7 @@ fn title_length(n: usize) -> bool
     if n < 1 {
         return false;
     }
-    if 160 < n {
+    if LONGEST_TITLE < n {
         return false;
     }
     true
@@ -76,7 +82,7 @@ pub(crate) fn count_titles(run: &[u8]) -> usize
     if c != 0 {
         return 0;
     }
-    if 99 < n {
+    if MOST_TITLES < n {
         return 0;
     }
     n

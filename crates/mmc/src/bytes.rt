@@ -64,11 +64,13 @@ pub(crate) fn all_zero(s: &[u8]) -> bool
     zero
 }
 
-// Whether two runs of bytes of one length are equal.
-pub(crate) fn same(s: &[u8], t: &[u8]) -> bool
-    requires { ⌜ length (now s) ≡ length (now t) ⌝ }
+// Whether two runs of bytes are equal.
+pub fn same(s: &[u8], t: &[u8]) -> bool
     ensures { λ r. ⌜ r ≡ sameBytes (now (s .entry)) (now (t .entry)) ⌝ }
 {
+    if s.len() != t.len() {
+        return false;
+    }
     let mut i: usize = 0;
     while i < s.len() {
         if s[i] != t[i] {

@@ -4,13 +4,13 @@ use mathlib.Core.Bool.{Bool, true, false, not, _&&_}
 use mathlib.Core.List.{List, [], _∷_}
 use Prim.Native.Nat.{ℕ, _-_, _≤_}
 use native.Mathlib.Omega.{arith}
-use lib.ListN.{length, getD, take, drop, replicate, length-drop, length-replicate}
-use lib.Seq.{length-take-le, take-all}
+use lib.ListN.{length, getD, take, drop, replicate, length-drop}
+use lib.Seq.{take-all}
 use lib.Dec.{eqb, leb}
 use borrow.Author.Tests.{eqb-true, leb-true, eq-eqb, ne-eqb, not-true, not-false}
 use Rattle.basics.specs.Bytes.{be16}
 use Rattle.packs.specs.Answers.{answerTo}
-use Rattle.packs.specs.Requests.{requestOf, isServed, isHead, isRequest, nextLength, answered}
+use Rattle.packs.specs.Requests.{mostRoom, mostSize, requestOf, isServed, isHead, isRequest, nextLength, answered}
 use Rattle.packs.specs.declared.Request.{Request}
 
 pub neither : (b : Bool) → b ≡ true → b ≡ false → ⊥
@@ -38,13 +38,13 @@ says head room size l a b =
 pub record Limits (r : Request) : Type 0 where
   pub least : 1 ≤ r .operation
   pub most : r .operation ≤ 3
-  pub room-most : r .room ≤ 8192
-  pub size-most : r .size ≤ 32768
+  pub room-most : r .room ≤ mostRoom
+  pub size-most : r .size ≤ mostSize
 
 served : (r : Request) → isServed r ≡ true → Limits r
 served r e =
-    let s = both (leb 1 (r .operation) && leb (r .operation) 3 && leb (r .room) 8192) (leb (r .size) 32768) e in
-    let t = both (leb 1 (r .operation) && leb (r .operation) 3) (leb (r .room) 8192) (s .0) in
+    let s = both (leb 1 (r .operation) && leb (r .operation) 3 && leb (r .room) mostRoom) (leb (r .size) mostSize) e in
+    let t = both (leb 1 (r .operation) && leb (r .operation) 3) (leb (r .room) mostRoom) (s .0) in
     let o = both (leb 1 (r .operation)) (leb (r .operation) 3) (t .0) in
     record { least = leb-true _ _ (o .0); most = leb-true _ _ (o .1); room-most = leb-true _ _ (t .1); size-most = leb-true _ _ (s .1) }
 
@@ -55,10 +55,6 @@ five head e = eqb-true _ _ (both (eqb (length head) 5) (isServed (requestOf head
 pub limits : (head : List ℕ) (r : Request) → isHead head ≡ true → r ≡ requestOf head → Limits r
 unfolding isHead
 limits head r e q = served r (ap isServed q ∙ both (eqb (length head) 5) (isServed (requestOf head)) e .1)
-
--- the space for a payload
-pub space-long : (n : ℕ) → n ≤ 32768 → length {A = ℕ} (take n (replicate 32768 0)) ≡ n
-space-long n h = length-take-le {A = ℕ} n (replicate 32768 0) (omega (arith, length-replicate {A = ℕ} 32768 0))
 
 -- after a head comes its payload
 pub payload-next : (head : List ℕ) → isHead head ≡ true → nextLength head ≡ requestOf head .size

@@ -2,10 +2,10 @@
 use mathlib.Core.Path.{_≡_, refl, ap, _∙_}
 use mathlib.Core.Bool.{Bool, true, false}
 use mathlib.Core.List.{List, [], _∷_, _++_, append-nil}
-use Prim.Native.Nat.{ℕ, zero, suc, _+_, _-_, _*_, _/_, _%_, _≤_, _<_}
+use Prim.Native.Nat.{ℕ, suc, _+_, _-_, _*_, _/_, _%_, _≤_, _<_}
 use native.Mathlib.Omega.{arith}
-use lib.ListN.{length, take, drop, set, replicate, length-append, length-replicate, drop-of-length-le}
-use lib.Seq.{length-take-le, length-front, take-all, take-at}
+use lib.ListN.{length, take, drop, set, replicate, length-append, drop-of-length-le}
+use lib.Seq.{length-take-le, take-all}
 use lib.Dec.{eqb, leb}
 use borrow.Author.Tests.{leb-true}
 use Rattle.basics.specs.Bytes.{if, bytes16}
@@ -75,20 +75,6 @@ whole-answer (a ∷ b ∷ c ∷ t) ys payload k op h l ek e =
     let n : length t ≤ k = omega arith in
     ap (λ (z : List ℕ). bytesOf h ++ (ys ++ z)) (drop-of-length-le t n) ∙ ap (λ (z : List ℕ). bytesOf h ++ z) (append-nil ys) ∙ e ∙ ap (answerTo op payload) (take-all k t n)
 
--- a lent part comes back as long as it was
-pub still-there : (xs ys : List ℕ) (k room : ℕ) → length xs ≡ 8195 → room ≤ 8192 → length ys ≡ length (take k xs) → 3 + room ≤ length (ys ++ drop k xs)
-still-there xs ys k room e h l = omega (arith, length-front xs ys k l)
-
--- the first k of n equal bytes
-take-equal : (k n x : ℕ) → k ≤ n → take k (replicate n x) ≡ replicate k x
-take-equal zero n x h = refl
-take-equal (suc k) zero x h = absurd (omega arith)
-take-equal (suc k) (suc n) x h = ap (λ (l : List ℕ). x ∷ l) (take-equal k n x (omega arith))
-
--- the first k of n equal bytes, all of them but three lent, came back as the answer ys
-pub sent : (ys payload : List ℕ) (k n x room op : ℕ) → k ≡ suc (suc (suc room)) → k ≤ n → length ys ≡ length (take k (replicate n x)) → ys ≡ answerTo op payload (drop 3 (take k (replicate n x))) → take k (ys ++ drop k (replicate n x)) ≡ answerTo op payload (replicate room x)
-sent ys payload k n x room op ek h l e =
-    let xs = replicate n x in
-    let m : length ys ≡ k = omega (arith, length-take-le k xs (omega (arith, length-replicate n x))) in
-    let t : drop 3 (take k xs) ≡ replicate room x = ap (drop 3) (take-equal k n x h) ∙ ap (λ (z : ℕ). drop 3 (replicate z x)) ek in
-    take-at ys (drop k xs) k m ∙ e ∙ ap (answerTo op payload) t
+-- the lent buffer behind the head, where all was cleared
+pub cleared : (xs : List ℕ) (n x room : ℕ) → n ≡ suc (suc (suc room)) → xs ≡ replicate n x → drop 3 xs ≡ replicate room x
+cleared xs n x room e q = ap (drop 3) (q ∙ ap (λ (k : ℕ). replicate k x) e)

@@ -12,9 +12,16 @@ use Rattle.packs.specs.declared.Request.{Request}
 abbrev pub requestOf : List ℕ → Request
 requestOf head = record { operation = getD head 0 0; room = be16 (drop 1 head); size = be16 (drop 3 head) }
 
--- the requests that are answered: operations 1 to 3, a lent buffer of up to 8,192 bytes, a payload of up to 32,768
+-- the longest lent buffer and the longest payload
+abbrev pub mostRoom : ℕ
+mostRoom = 8192
+
+abbrev pub mostSize : ℕ
+mostSize = 32768
+
+-- the requests that are answered: operations 1 to 3, within these lengths
 abbrev pub isServed : Request → Bool
-isServed r = leb 1 (r .operation) && leb (r .operation) 3 && leb (r .room) 8192 && leb (r .size) 32768
+isServed r = leb 1 (r .operation) && leb (r .operation) 3 && leb (r .room) mostRoom && leb (r .size) mostSize
 
 -- which bytes are a head: five that say such a request
 unfoldable pub isHead : List ℕ → Bool

@@ -10,13 +10,13 @@
 ghost use mathlib.Core.Path.{_≡_};
 ghost use mathlib.Core.Bool.{true, false};
 ghost use mathlib.Core.List.{[], _∷_, _++_};
-ghost use Prim.Native.Nat.{_≤_};
-ghost use lib.ListN.{length, take, drop};
+ghost use Prim.Native.Nat.{_+_, _≤_};
+ghost use lib.ListN.{length, take, drop, replicate};
 ghost use Rattle.basics.specs.Bytes.{bytes16};
 ghost use Rattle.cdtext.specs.Refusals.{numberOf};
 ghost use Rattle.io.specs.Counts.{Counts};
 ghost use Rattle.packs.specs.Answers.{answerTo, bytesOf};
-ghost use Rattle.packs.specs.Requests.{requestOf, isServed, isHead, isRequest, nextLength, answered};
+ghost use Rattle.packs.specs.Requests.{mostRoom, mostSize, requestOf, isServed, isHead, isRequest, nextLength, answered};
 use cdtext::check::check_of;
 use cdtext::packs::make_packs;
 use cdtext::packs::read_packs;
@@ -56,7 +56,7 @@ fn accepted(amount: u16) -> Head
 
 // Makes packs from titles.
 fn made(run: &[u8], lent: &mut [u8]) -> Head
-    requires { ⌜ length (now lent) ≤ 8192 ⌝ }
+    requires { ⌜ length (now lent) ≤ mostRoom ⌝ }
     ensures { λ h. ⌜ bytesOf h ++ now (lent .exit) ≡ answerTo 1 (now (run .entry)) (now (lent .entry)) ⌝ }
 {
     let answer = make_packs(run, lent);
@@ -68,7 +68,7 @@ fn made(run: &[u8], lent: &mut [u8]) -> Head
 
 // Reads titles from packs.
 fn read(packs: &[u8], lent: &mut [u8]) -> Head
-    requires { ⌜ length (now lent) ≤ 8192 ⌝ }
+    requires { ⌜ length (now lent) ≤ mostRoom ⌝ }
     ensures { λ h. ⌜ bytesOf h ++ now (lent .exit) ≡ answerTo 2 (now (packs .entry)) (now (lent .entry)) ⌝ }
 {
     let answer = read_packs(packs, lent);
@@ -80,7 +80,7 @@ fn read(packs: &[u8], lent: &mut [u8]) -> Head
 
 // Does what the operation asks for.
 fn done(operation: u8, payload: &[u8], lent: &mut [u8]) -> Head
-    requires { ⌜ (1 ≤ operation) × (operation ≤ 3) × (length (now lent) ≤ 8192) ⌝ }
+    requires { ⌜ (1 ≤ operation) × (operation ≤ 3) × (length (now lent) ≤ mostRoom) ⌝ }
     ensures { λ h. ⌜ bytesOf h ++ now (lent .exit) ≡ answerTo operation (now (payload .entry)) (now (lent .entry)) ⌝ }
 {
     match operation {
@@ -92,7 +92,7 @@ fn done(operation: u8, payload: &[u8], lent: &mut [u8]) -> Head
 
 // Puts the answer to a request into out, where the lent buffer stands from the fourth byte on.
 fn put_answer(operation: u8, payload: &[u8], out: &mut [u8])
-    requires { ⌜ (1 ≤ operation) × (operation ≤ 3) × (3 ≤ length (now out)) × (length (now out) ≤ 8195) ⌝ }
+    requires { ⌜ (1 ≤ operation) × (operation ≤ 3) × (3 ≤ length (now out)) × (length (now out) ≤ 3 + mostRoom) ⌝ }
     ensures { λ _. ⌜ now (out .exit) ≡ answerTo operation (now (payload .entry)) (drop 3 (now (out .entry))) ⌝ }
 {
     let end = out.len();
@@ -181,21 +181,39 @@ fn stop(head: &[u8], payload: &[u8]) -> bool
     false
 }
 
-// Answers a request, and tells whether the whole answer was written.
-fn answer(head: &[u8], payload: &[u8]) -> bool
-    requires { ⌜ isRequest (now head) (now payload) ≡ true ⌝ }
+// Fills a buffer with A5h.
+fn clear(out: &mut [u8])
+    ensures { λ _. ⌜ now (out .exit) ≡ replicate (length (now (out .entry))) 0xA5 ⌝ }
+{
+    let mut i: usize = 0;
+    while i < out.len() {
+        out[i] = 0xA5;
+        i = i + 1;
+    }
+}
+
+// Answers a request in a space of the answer's length, and tells whether the whole answer was written.
+fn reply(head: &[u8], payload: &[u8], out: &mut [u8]) -> bool
+    requires { ⌜ (isRequest (now head) (now payload) ≡ true) × (length (now out) ≡ 3 + requestOf (now head) .room) ⌝ }
 {
     let request = request_of(head);
-    let room = request.room;
-    let mut space = [0xA5u8; 3 + MOST_ROOM];
-    let n = 3 + room;
-    put_answer(request.operation, payload, &mut space[0..n]);
-    send(head, payload, &space[0..n])
+    clear(out);
+    put_answer(request.operation, payload, out);
+    send(head, payload, out)
+}
+
+// Answers a request, and tells whether the whole answer was written. The space for answers is lent, so that it is not made anew.
+fn answer(head: &[u8], payload: &[u8], out: &mut [u8]) -> bool
+    requires { ⌜ (isRequest (now head) (now payload) ≡ true) × (length (now out) ≡ 3 + mostRoom) ⌝ }
+{
+    let request = request_of(head);
+    let n = 3 + request.room;
+    reply(head, payload, &mut out[0..n])
 }
 
 // Answers a request if its payload came whole, and tells whether to go on. Of the space the first got bytes came.
-fn serve_payload(head: &[u8], space: &[u8], got: usize) -> bool
-    requires { ⌜ (isHead (now head) ≡ true) × Counts got (now space) ⌝ }
+fn serve_payload(head: &[u8], space: &[u8], got: usize, out: &mut [u8]) -> bool
+    requires { ⌜ (isHead (now head) ≡ true) × Counts got (now space) × (length (now out) ≡ 3 + mostRoom) ⌝ }
     ensures { λ r. ⌜ (isRequest (now (head .entry)) (take got (now (space .entry))) ≡ false → r ≡ false) ⌝ }
 {
     let payload = &space[..got];
@@ -203,20 +221,20 @@ fn serve_payload(head: &[u8], space: &[u8], got: usize) -> bool
     if payload.len() != request.size {
         return stop(head, payload);
     }
-    answer(head, payload)
+    answer(head, payload, out)
 }
 
 // Reads the payload that a head announces, into a space of that length, and answers the request.
-fn read_payload(head: &[u8], space: &mut [u8]) -> bool
-    requires { ⌜ (isHead (now head) ≡ true) × (length (now space) ≡ requestOf (now head) .size) ⌝ }
+fn read_payload(head: &[u8], space: &mut [u8], out: &mut [u8]) -> bool
+    requires { ⌜ (isHead (now head) ≡ true) × (length (now space) ≡ requestOf (now head) .size) × (length (now out) ≡ 3 + mostRoom) ⌝ }
 {
     let got = receive(head, space);
-    serve_payload(head, space, got)
+    serve_payload(head, space, got, out)
 }
 
 // Answers a request if what came is a head, and tells whether to go on. Of the space the first got bytes came.
-fn serve_head(space: &[u8], got: usize) -> bool
-    requires { ⌜ Counts got (now space) ⌝ }
+fn serve_head(space: &[u8], got: usize, payload: &mut [u8], out: &mut [u8]) -> bool
+    requires { ⌜ Counts got (now space) × (length (now payload) ≡ mostSize) × (length (now out) ≡ 3 + mostRoom) ⌝ }
     ensures { λ r. ⌜ (isHead (take got (now (space .entry))) ≡ false → r ≡ false) ⌝ }
 {
     let head = &space[..got];
@@ -225,15 +243,16 @@ fn serve_head(space: &[u8], got: usize) -> bool
     }
     let request = request_of(head);
     let size = request.size;
-    let mut payload = [0u8; MOST_SIZE];
-    read_payload(head, &mut payload[..size])
+    read_payload(head, &mut payload[0..size], out)
 }
 
-// Answers one request, and tells whether to go on.
-fn serve() -> bool {
+// Answers one request, and tells whether to go on. The spaces for payloads and for answers are lent.
+fn serve(payload: &mut [u8], out: &mut [u8]) -> bool
+    requires { ⌜ (length (now payload) ≡ mostSize) × (length (now out) ≡ 3 + mostRoom) ⌝ }
+{
     let mut space = [0u8; 5];
     let got = receive(&[], &mut space);
-    serve_head(&space, got)
+    serve_head(&space, got, payload, out)
 }
 
 // Does nothing. Why the program ends is named for the contract alone: it is not to go on, or has had all its turns.
@@ -244,11 +263,13 @@ fn over(more: bool, turns: u64)
 // Answers requests until the input ends. A proved loop has to end, and nothing says that the input does: so the loop counts its
 // turns down, from a number that no run uses up.
 fn main() {
+    let mut payload = [0u8; MOST_SIZE];
+    let mut out = [0u8; 3 + MOST_ROOM];
     let mut turns = u64::MAX;
-    let mut more = serve();
+    let mut more = serve(&mut payload, &mut out);
     while turns > 0 && more {
         turns -= 1;
-        more = serve();
+        more = serve(&mut payload, &mut out);
     }
     over(more, turns);
 }

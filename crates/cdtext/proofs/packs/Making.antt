@@ -1,19 +1,17 @@
 -- What the count of titles and the length of a run say of its packs.
 use mathlib.Core.Path.{_≡_, refl, sym, ap, _∙_}
-use mathlib.Core.List.{List, _++_}
-use mathlib.Core.Bool.{Bool, true, false}
+use mathlib.Core.List.{List, _++_, append-nil, append-assoc}
+use mathlib.Core.Bool.{true, false}
 use Prim.Native.Nat.{ℕ, _+_, _-_, _*_, _≤_, _<_}
 use native.Mathlib.Omega.{arith}
 use lib.Dec.{leb}
-use lib.ListN.{length, take, drop}
-use lib.Seq.{take-at}
+use lib.ListN.{length, take, drop, length-drop, drop-of-length-le}
+use lib.Seq.{drop-drop, take-all}
 use borrow.Author.Tests.{le-leb, lt-leb, leb-true}
-use Rattle.basics.specs.Bytes.{sameBytes}
 use Rattle.mmc.specs.Refusals.{pass, refuse, answerOf, bufferOf}
 use Rattle.basics.proofs.Tests.{known, both}
-use Rattle.basics.proofs.Bytes.{same-is}
 use Rattle.cdtext.specs.Titles.{mostTitles, allowed, titlesFrom, titleCount}
-use Rattle.cdtext.specs.Packs.{mostPacks, longestRun, packsFor, packsOf, packs, textPacks, sizePacks, sizeRecord, areBytes, Fits, FillsPacks, MakesPacks}
+use Rattle.cdtext.specs.Packs.{mostPacks, longestRun, packsFor, packsOf, packs, textPacks, sizePacks, sizeRecord, runIn, areBytes, Fits, Bears, FillsPacks, MakesPacks}
 use Rattle.cdtext.specs.Refusals.{numberOf}
 use Rattle.cdtext.specs.declared.refusals.Made.{Made}
 use Rattle.cdtext.specs.declared.refusals.Made.the-variants as M
@@ -23,6 +21,7 @@ use Rattle.cdtext.proofs.titles.Laws.{titles, allows}
 use Rattle.cdtext.proofs.packs.Steps.{put-more}
 use Rattle.cdtext.proofs.packs.Tracks.{placed}
 use Rattle.cdtext.proofs.packs.Texts.{texts-length}
+use Rattle.cdtext.proofs.packs.Comparing.{differ}
 use Rattle.cdtext.proofs.packs.Laws.{some, long, few, no-gaps, reads-back}
 
 -- ---- the count of titles
@@ -62,15 +61,20 @@ fits run room a h r = record { few = counts run a .1; short = h; some = omega (a
 
 -- ---- the lent buffer
 
--- the size packs behind the text packs
-pub all-put : (run d out out′ : List ℕ) (t n : ℕ) → t ≡ titleCount run → n ≡ packsFor run → out ≡ textPacks run n ++ drop (18 * n) d
-    → out′ ≡ take (18 * n) out ++ sizePacks (sizeRecord t n) n ++ drop (18 * (n + 3)) out → out′ ≡ packsOf run ++ drop (18 * (packsFor run + 3)) d
+-- the size packs behind the text packs, over the rest of the buffer
+pub all-put : (run d out ys : List ℕ) (t n : ℕ) → t ≡ titleCount run → n ≡ packsFor run → out ≡ textPacks run n ++ drop (18 * n) d
+    → ys ≡ sizePacks (sizeRecord t n) n ++ drop 54 (take (length out - 18 * n) (drop (18 * n) out))
+    → take (18 * n) out ++ (ys ++ drop (length out - 18 * n) (drop (18 * n) out)) ≡ packsOf run ++ drop (18 * (packsFor run + 3)) d
 unfolding packsOf
-all-put run d out out′ t n et en eo es =
-    let h : 18 * (n + 3) ≡ 18 * n + 54 = omega arith in
+all-put run d out ys t n et en eo ey =
     let k : 18 * n + 54 ≡ 18 * (packsFor run + 3) = omega arith in
-    put-more (textPacks run n) (sizePacks (sizeRecord t n) n) d out out′ (18 * n) 54 (texts-length run n) eo (es ∙ ap (λ (m : ℕ). take (18 * n) out ++ sizePacks (sizeRecord t n) n ++ drop m out) h)
-    ∙ rw (k, en, et)
+    let s = sizePacks (sizeRecord t n) n in
+    let r = drop (18 * n) out in
+    let l : length r ≤ length out - 18 * n = omega (arith, length-drop (18 * n) out) in
+    let f : drop 54 r ≡ drop (18 * n + 54) out = drop-drop 54 (18 * n) out in
+    let q : take (18 * n) out ++ (ys ++ drop (length out - 18 * n) r) ≡ take (18 * n) out ++ s ++ drop (18 * n + 54) out =
+    rw (drop-of-length-le r l, append-nil ys, ey, take-all (length out - 18 * n) r l, f, append-assoc (take (18 * n) out) s (drop (18 * n + 54) out)) in
+    put-more (textPacks run n) s d out (take (18 * n) out ++ (ys ++ drop (length out - 18 * n) r)) (18 * n) 54 (texts-length run n) eo q ∙ rw (k, en, et)
 
 -- a refusal leaves the buffer as it was
 pub refused : (run : List ℕ) (r : Refusal) (d : List ℕ) → packs run ≡ refuse (numberOf r) → FillsPacks (packs run) (M.Refused r) d d
@@ -105,9 +109,8 @@ makes {run} f =
 -- ---- whether bytes are the packs
 
 pub other-length : (run b : List ℕ) → packs run ≡ pass (packsOf run) → (length b ≡ 18 * (packsFor run + 3) → ⊥) → false ≡ areBytes (packs run) b
-other-length run b e h = rw e (known (sameBytes (packsOf run) b) (λ s. absurd (h (sym (ap length (same-is (packsOf run) b s)) ∙ long run))) (λ s. sym s))
+other-length run b e h = rw e (differ (packsOf run) b (λ q. h (ap length (sym q) ∙ long run)))
 
-pub as-packs : (run d out b : List ℕ) (t : Bool) → packs run ≡ pass (packsOf run) → out ≡ packsOf run ++ drop (18 * (packsFor run + 3)) d → length b ≡ 18 * (packsFor run + 3) → t ≡ sameBytes (take (length b - 0) out) b → t ≡ areBytes (packs run) b
-as-packs run d out b t e eo l et =
-    let z : length b - 0 ≡ 18 * (packsFor run + 3) = omega arith in
-    et ∙ ap (λ (x : List ℕ). sameBytes (take (length b - 0) x) b) eo ∙ rw (z, take-at (packsOf run) (drop (18 * (packsFor run + 3)) d) (18 * (packsFor run + 3)) (long run), e)
+-- bytes as long as the packs of the titles that their text gives
+pub bears : (run b : List ℕ) (n : ℕ) → allowed run ≡ true → length run ≤ longestRun → n ≡ packsFor run → length b ≡ 18 * (n + 3) → run ≡ runIn b → Bears run n b
+bears run b n a h en el e = record { text = e; packs = en; few = counts run a .1; short = omega arith; long = el }

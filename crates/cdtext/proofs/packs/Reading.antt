@@ -1,6 +1,6 @@
 -- The text of packs gathered pack by pack, and cut behind its last byte that is not zero.
 use mathlib.Core.Path.{_≡_, refl, sym, ap, _∙_}
-use mathlib.Core.List.{List, [], _∷_, _++_, append-assoc, append-nil}
+use mathlib.Core.List.{List, [], _∷_, _++_, append-assoc}
 use mathlib.Core.Bool.{Bool, true, false, _&&_}
 use Prim.Native.Nat.{ℕ, zero, suc, _+_, _-_, _*_, _≤_, _<_}
 use native.Mathlib.Numerals.{add-one}
@@ -134,14 +134,8 @@ cut-end text n v h =
 
 -- ---- a text over zeros
 
--- zeros at the end of a text change nothing
-pub cut-zeros : (m : ℕ) (s : List ℕ) → trimmed (s ++ zeros m) ≡ trimmed s
-cut-zeros zero s = ap trimmed (append-nil s)
-cut-zeros (suc m) s =
-    ap trimmed (sym (append-assoc s (0 ∷ []) (zeros m))) ∙ cut-zeros m (s ++ 0 ∷ []) ∙ cut-zero s 0 refl
-
 -- what is cut off is zeros
-cut-off : (s : List ℕ) → (m : ℕ) × (s ≡ trimmed s ++ zeros m)
+pub cut-off : (s : List ℕ) → (m : ℕ) × (s ≡ trimmed s ++ zeros m)
 unfolding trimmed
 cut-off [] = (0, refl)
 cut-off (x ∷ s) =

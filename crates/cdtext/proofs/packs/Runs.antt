@@ -1,11 +1,12 @@
 -- The run that the text of packs gives, and what is read where the bytes are its packs.
-use mathlib.Core.Path.{_≡_, refl, sym, ap, _∙_}
+use mathlib.Core.Path.{_≡_, refl, sym, ap, ap₂, _∙_}
 use mathlib.Core.List.{List, _++_}
 use mathlib.Core.Bool.{Bool, true, false}
-use Prim.Native.Nat.{ℕ, zero, _+_, _-_, _*_, _/_, _%_, _≤_}
+use Prim.Native.Nat.{ℕ, _+_, _-_, _*_, _/_, _%_, _≤_}
 use native.Mathlib.Omega.{arith}
 use lib.Dec.{leb, eqb}
 use lib.ListN.{length, take, drop, replicate}
+use lib.Seq.{take-at}
 use borrow.Author.Tests.{leb-true, eqb-true}
 use Rattle.basics.specs.Bytes.{if}
 use Rattle.mmc.specs.Refusals.{pass, refuse, answerOf, bufferOf, madeOf, Fills}
@@ -14,12 +15,12 @@ use Rattle.mmc.specs.declared.refusals.Made.the-variants as L
 use Rattle.mmc.specs.declared.refusals.Refusal.{Refusal}
 use Rattle.basics.proofs.Tests.{both}
 use Rattle.basics.proofs.Lists.{zeros, drop-zeros}
-use Rattle.cdtext.specs.Packs.{mostPacks, packs, textIn, trimmed, runIn, packsSize, areBytes, isPacks, readPacks, FillsTitles, ReadsPacks}
+use Rattle.cdtext.specs.Packs.{mostPacks, longestRun, packs, textIn, trimmed, runIn, packsSize, areBytes, isPacks, readPacks, FillsTitles, ReadsPacks}
 use Rattle.cdtext.specs.Refusals.{readOf}
 use Rattle.cdtext.specs.declared.refusals.Read.{Read}
 use Rattle.cdtext.specs.declared.refusals.Read.the-variants as R
 use Rattle.cdtext.specs.declared.refusals.Refusal.the-variants.{NoPacks}
-use Rattle.cdtext.proofs.packs.Reading.{text-length, cut-zeros, cut-under, one-more}
+use Rattle.cdtext.proofs.packs.Reading.{text-length, cut-under, one-more}
 use Rattle.cdtext.proofs.packs.Laws.{made, reads-back}
 
 -- what a length that packs can have says
@@ -31,30 +32,43 @@ sized n e =
     let h = leb-true n _ (v .0) in
     (leb-true 72 n (w .0), omega arith, eqb-true (n % 18) 0 (v .1))
 
--- the reader's room for the text of the most packs, and for one zero
+-- the reader's room for the longest text, and for one zero
 abbrev room : ℕ
-room = 12 * (mostPacks - 3) + 1
+room = longestRun + 1
 
--- the text over zeros, up to one byte behind its last that is not zero
-pub run-is : (b text : List ℕ) (e : ℕ) → packsSize (length b) ≡ true → text ≡ textIn (length b / 18 - 3) b ++ drop (12 * (length b / 18 - 3)) (replicate room 0) → e ≡ length (trimmed text) → take (e + 1 - 0) text ≡ runIn b
+-- the text of all packs but the three last, over zeros
+abbrev Gathered : List ℕ → List ℕ → Type 0
+Gathered b text = text ≡ textIn (length b / 18 - 3) b ++ drop (12 * (length b / 18 - 3)) (replicate room 0)
+
+-- its length without the zeros at its end
+abbrev Trimmed : List ℕ → List ℕ → ℕ → Type 0
+Trimmed b text e = e ≡ length (trimmed (take (12 * (length b / 18 - 3) - 0) text))
+
+trim-is : (b text : List ℕ) (e : ℕ) → packsSize (length b) ≡ true → Gathered b text → Trimmed b text e → e ≡ length (trimmed (textIn (length b / 18 - 3) b))
+trim-is b text e s et ee =
+    let w = sized (length b) s in
+    let k : ℕ = length b / 18 - 3 in
+    let z : 12 * k - 0 ≡ 12 * k = omega arith in
+    let f : take (12 * k - 0) text ≡ textIn k b = ap₂ (take {A = ℕ}) z et ∙ take-at (textIn k b) (drop (12 * k) (replicate room 0)) (12 * k) (text-length k b (omega arith)) in
+    ee ∙ ap (λ (l : List ℕ). length (trimmed l)) f
+
+-- up to one byte behind its last that is not zero
+pub run-is : (b text : List ℕ) (e : ℕ) → packsSize (length b) ≡ true → Gathered b text → Trimmed b text e → take (e + 1 - 0) text ≡ runIn b
 unfolding runIn
 run-is b text e s et ee =
     let w = sized (length b) s in
     let k : ℕ = length b / 18 - 3 in
     let t = textIn k b in
     let z : text ≡ t ++ zeros (room - 12 * k) = et ∙ ap (λ (l : List ℕ). t ++ l) (drop-zeros (12 * k) room (omega arith)) in
-    let l : e ≡ length (trimmed t) = ee ∙ ap length (ap trimmed z ∙ cut-zeros (room - 12 * k) t) in
-    let j : e + 1 - 0 ≡ length (trimmed t) + 1 = omega arith in
-    ap (take (e + 1 - 0)) z ∙ ap (λ (n : ℕ). take n (t ++ zeros (room - 12 * k))) j ∙ one-more t (room - 12 * k) (omega arith)
+    let j : e + 1 - 0 ≡ length (trimmed t) + 1 = omega (arith, trim-is b text e s et ee) in
+    ap₂ (take {A = ℕ}) j z ∙ one-more t (room - 12 * k) (omega arith)
 
 -- that byte lies in the text
-pub run-ends : (b text : List ℕ) → packsSize (length b) ≡ true → text ≡ textIn (length b / 18 - 3) b ++ drop (12 * (length b / 18 - 3)) (replicate room 0) → length (trimmed text) + 1 ≤ room
-run-ends b text s et =
+pub run-ends : (b text : List ℕ) (e : ℕ) → packsSize (length b) ≡ true → Gathered b text → Trimmed b text e → e + 1 ≤ room
+run-ends b text e s et ee =
     let w = sized (length b) s in
     let k : ℕ = length b / 18 - 3 in
-    let t = textIn k b in
-    let l = ap length (ap trimmed (et ∙ ap (λ (l : List ℕ). t ++ l) (drop-zeros (12 * k) room (omega arith))) ∙ cut-zeros (room - 12 * k) t) in
-    omega (arith, l, text-length k b (omega arith), cut-under t)
+    omega (arith, trim-is b text e s et ee, text-length k b (omega arith), cut-under (textIn k b))
 
 -- ---- what is read
 

@@ -1,59 +1,43 @@
-use Prim.Native.Nat.{ℕ, _+_, _-_}
+use mathlib.Core.Path.{ap, _∙_}
+use Prim.Native.Nat.{_+_, _-_, _≤_}
 use native.Mathlib.Omega.{arith}
-use lib.ListN.{replicate, length-replicate}
+use lib.Seq.{length-take-le}
 use borrow.Author.Needs.{needs}
-use Rattle.packs.proofs.Heads.{five, limits, headed, answer-said}
-use Rattle.packs.proofs.Steps.{still-there, sent}
+use Rattle.packs.specs.Requests.{mostRoom}
+use Rattle.packs.specs.declared.Request.{Request}
+use Rattle.packs.proofs.Heads.{five, limits, headed}
 use Rattle.packs.proofs.answer.Statement.{statement}
 use Rattle.packs.proofs.answer.Tie as tie
 
+-- the answer has room in the space
+holds : (c : tie.After-request-of) → c .request-of .result .room ≤ mostRoom
+holds c = limits _ _ (headed _ _ (c .before .before .before .before .pre .0)) (c .request-of .ensures) .room-most
+
 request-of-requires : tie.Need-request-of-requires
-request-of-requires c κs = five _ (headed _ _ (c .before .before .pre))
+request-of-requires c κs = five _ (headed _ _ (c .before .before .before .pre .0))
 
 add-n : tie.Need-add-n
-add-n c =
-    let l = limits _ _ (headed _ _ (c .before .before .before .pre)) (c .request-of .ensures) in
-    search needs
+add-n c = search (needs, holds (c .before))
 
-sub-put-answer : tie.Need-sub-put-answer
-sub-put-answer c = search needs
+sub-reply : tie.Need-sub-reply
+sub-reply c = search needs
 
-part-space-start : tie.Need-part-space-start
-part-space-start c = search needs
+part-reply-start : tie.Need-part-reply-start
+part-reply-start c = search needs
 
-part-space-end : tie.Need-part-space-end
-part-space-end c =
-    let l = limits _ _ (headed _ _ (c .before .before .before .pre)) (c .request-of .ensures) in
-    search needs
+part-reply-end : tie.Need-part-reply-end
+part-reply-end c = search (needs, holds (c .before))
 
-put-answer-requires : tie.Need-put-answer-requires
-put-answer-requires c κs =
-    let l = limits _ _ (headed _ _ (c .before .before .before .before .pre)) (c .before .request-of .ensures) in
-    search needs
-
-sub-send : tie.Need-sub-send
-sub-send c = search needs
-
-part-send-start : tie.Need-part-send-start
-part-send-start c = search needs
-
-part-send-end : tie.Need-part-send-end
-part-send-end c =
-    let p = c .before .before in
-    let q = p .before .before in
+reply-requires : tie.Need-reply-requires
+reply-requires c κs =
+    let q = c .before .before in
+    let st = q .before .before .before .before in
     let r = q .request-of .result in
-    let l = limits _ _ (headed _ _ (q .before .before .before .pre)) (q .request-of .ensures) in
-    still-there (replicate 8195 165) (p .put-answer .last .1 .1 .0) (3 + r .room - 0) (r .room) (length-replicate {A = ℕ} 8195 165) (l .room-most) (p .put-answer .kept .1 .1 .0)
+    let l = length-take-le (3 + r .room - 0) (st .args .out .now) (omega (arith, holds q, st .pre .1)) in
+    (st .pre .0, l ∙ omega (arith, ap (λ (r : Request). r .room) (q .request-of .ensures)))
 
-send-requires : tie.Need-send-requires
-send-requires c κs =
-    let p = c .before .before .before in
-    let q = p .before .before in
-    let st = q .before .before .before in
-    let r = q .request-of .result in
-    let l = limits _ _ (headed _ _ (q .before .before .before .pre)) (q .request-of .ensures) in
-    let s = sent (p .put-answer .last .1 .1 .0) (st .args .payload .now) (3 + r .room - 0) 8195 165 (r .room) (r .operation) (omega arith) (omega arith) (p .put-answer .kept .1 .1 .0) (p .put-answer .ensures) in
-    (st .pre, answer-said _ _ _ r (q .request-of .ensures) s)
+same-length : tie.Need-same-length
+same-length c = search needs
 
 returns : tie.Need-returns
 returns c = search needs
@@ -64,12 +48,9 @@ answer-spec =
     (tie.spec
     request-of-requires
     add-n
-    sub-put-answer
-    part-space-start
-    part-space-end
-    put-answer-requires
-    sub-send
-    part-send-start
-    part-send-end
-    send-requires
+    sub-reply
+    part-reply-start
+    part-reply-end
+    reply-requires
+    same-length
     returns)

@@ -1,7 +1,10 @@
-use mathlib.Core.Path.{sym, ap, _∙_}
+use mathlib.Core.Path.{ap, _∙_}
+use Prim.Native.Nat.{_-_}
+use native.Mathlib.Omega.{arith}
+use lib.Seq.{length-take-le}
 use borrow.Author.Needs.{needs}
 use Rattle.packs.specs.declared.Request.{Request}
-use Rattle.packs.proofs.Heads.{neither, is-so, is-not, five, limits, space-long, headless}
+use Rattle.packs.proofs.Heads.{neither, is-so, is-not, five, limits, headless}
 use Rattle.packs.proofs.serve_head.Statement.{statement}
 use Rattle.packs.proofs.serve_head.Tie as tie
 
@@ -23,25 +26,36 @@ returns c = search needs
 request-of-requires : tie.Need-request-of-requires
 request-of-requires c κs = five _ (is-so (c .before .is-head .ensures) (c .if1 .left))
 
-array-borrow-prefix-payload : tie.Need-array-borrow-prefix-payload
-array-borrow-prefix-payload c =
+sub-read-payload : tie.Need-sub-read-payload
+sub-read-payload c = search needs
+
+part-read-payload-start : tie.Need-part-read-payload-start
+part-read-payload-start c = search needs
+
+part-read-payload-end : tie.Need-part-read-payload-end
+part-read-payload-end c =
     let l = limits _ _ (is-so (c .before .before .is-head .ensures) (c .before .if1 .left)) (c .request-of .ensures) in
     search needs
 
-slice-aggregate-read-payload : tie.Need-slice-aggregate-read-payload
-slice-aggregate-read-payload c =
-    let q = c .before in
-    sym (space-long _ (limits _ _ (is-so (q .before .before .is-head .ensures) (q .before .if1 .left)) (q .request-of .ensures) .size-most))
-
 read-payload-requires : tie.Need-read-payload-requires
 read-payload-requires c κs =
-    let q = c .before in
-    let e = is-so (q .before .before .is-head .ensures) (q .before .if1 .left) in
-    (e, space-long _ (limits _ _ e (q .request-of .ensures) .size-most) ∙ ap (λ (r : Request). r .size) (q .request-of .ensures))
+    let q = c .before .before in
+    let h = q .before .before in
+    let st = h .before .before .before .before .before in
+    let r = q .request-of .result in
+    let e = is-so (h .is-head .ensures) (q .before .if1 .left) in
+    let l = length-take-le (r .size - 0) (st .args .payload .now) (omega (arith, limits _ _ e (q .request-of .ensures) .size-most, st .pre .1)) in
+    (e, l ∙ omega (arith, ap (λ (r : Request). r .size) (q .request-of .ensures)), st .pre .2)
+
+same-length : tie.Need-same-length
+same-length c = search needs
+
+same-length-2 : tie.Need-same-length-2
+same-length-2 c = search needs
 
 returns-2 : tie.Need-returns-2
 returns-2 c e =
-    let q = c .before .before .before in
+    let q = c .before .before .before .before .before .before .before in
     absurd (neither _ (is-so (q .before .before .is-head .ensures) (q .before .if1 .left)) e)
 
 pub serve-head-spec : {M : Type 1} → statement M
@@ -54,7 +68,10 @@ serve-head-spec =
     stop-requires
     returns
     request-of-requires
-    array-borrow-prefix-payload
-    slice-aggregate-read-payload
+    sub-read-payload
+    part-read-payload-start
+    part-read-payload-end
     read-payload-requires
+    same-length
+    same-length-2
     returns-2)

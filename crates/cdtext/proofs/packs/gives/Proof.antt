@@ -2,7 +2,7 @@ use mathlib.Core.Bool.{true}
 use mathlib.Core.Path.{_≡_, _∙_}
 use borrow.Author.Needs.{needs}
 use Rattle.cdtext.specs.Titles.{allowed, titleCount}
-use Rattle.cdtext.proofs.packs.Making.{counted, none, too-many, passed, fits, other-length, as-packs}
+use Rattle.cdtext.proofs.packs.Making.{counted, none, too-many, passed, other-length, bears}
 use Rattle.cdtext.proofs.packs.gives.Statement.{statement}
 use Rattle.cdtext.proofs.packs.gives.Tie as tie
 
@@ -44,40 +44,21 @@ returns-3 c =
     let w = good e in
     other-length run (a .b .now) (passed run (w .0) (p .before .if2 .left)) (λ h. c .if3 .taken (h ∙ rw (p .packs-for .ensures)))
 
-slice-aggregate-put-packs : tie.Need-slice-aggregate-put-packs
-slice-aggregate-put-packs c = search needs
-
-put-packs-requires : tie.Need-put-packs-requires
-put-packs-requires c κs =
-    let p = c .before .before in
+are-packs-requires : tie.Need-are-packs-requires
+are-packs-requires c κs =
+    let p = c .before in
     let e = p .before .before in
-    let a = e .before .before .before .before .args in
-    let run = a .run .now in
+    let st = e .before .before .before .before in
+    let a = st .args in
     let w = good e in
-    (fits run _ (w .0) (p .before .if2 .left) (search needs), w .1)
-
-sub-same : tie.Need-sub-same
-sub-same c = search needs
-
-part-same-start : tie.Need-part-same-start
-part-same-start c = search needs
-
-part-same-end : tie.Need-part-same-end
-part-same-end c = search needs
-
-same-requires : tie.Need-same-requires
-same-requires c κs = search needs
+    (bears (a .run .now) (a .b .now) (p .packs-for .result) (w .0) (p .before .if2 .left) (p .packs-for .ensures) (c .if3 .left) (st .pre .1), w .1)
 
 returns-4 : tie.Need-returns-4
 returns-4 c =
-    let u = c .before .before .before .before in
-    let q = u .before .before in
-    let p = q .before in
+    let p = c .before .before in
     let e = p .before .before in
-    let a = e .before .before .before .before .args in
-    let run = a .run .now in
-    let w = good e in
-    as-packs run _ (u .put-packs .last .1 .1 .0) (a .b .now) (c .same .result) (passed run (w .0) (p .before .if2 .left)) (u .put-packs .ensures) (q .if3 .left ∙ rw (p .packs-for .ensures)) (c .same .ensures)
+    let run = e .before .before .before .before .args .run .now in
+    c .are-packs .ensures ∙ rw (passed run (good e .0) (p .before .if2 .left))
 
 pub gives-spec : {M : Type 1} → statement M
 gives-spec =
@@ -90,10 +71,5 @@ gives-spec =
     add-if3
     mul-if3
     returns-3
-    slice-aggregate-put-packs
-    put-packs-requires
-    sub-same
-    part-same-start
-    part-same-end
-    same-requires
+    are-packs-requires
     returns-4)

@@ -27,20 +27,20 @@ part-p-end c = search needs
 fill-requires : tie.Need-fill-requires
 fill-requires c κs = search needs
 
-sub-check-of : tie.Need-sub-check-of
-sub-check-of c = search needs
+sub-check-by : tie.Need-sub-check-by
+sub-check-by c = search needs
 
-part-check-of-start : tie.Need-part-check-of-start
-part-check-of-start c = search needs
+part-check-by-start : tie.Need-part-check-by-start
+part-check-by-start c = search needs
 
-part-check-of-end : tie.Need-part-check-of-end
-part-check-of-end c =
+part-check-by-end : tie.Need-part-check-by-end
+part-check-by-end c =
     let f = c .before .before in
-    let a = f .before .before .before .args in
+    let a = f .before .before .before .before .args in
     unsealed-long (a .sort) (a .track) (a .number) (a .position) (f .fill .last .1 .0) (f .fill .kept .1 .0)
 
-check-of-requires : tie.Need-check-of-requires
-check-of-requires c κs = search needs
+check-by-requires : tie.Need-check-by-requires
+check-by-requires c κs = search needs
 
 cast-p : tie.Need-cast-p
 cast-p c = search needs
@@ -57,9 +57,9 @@ array-write-p-6 c = search needs
 returns : tie.Need-returns
 returns c =
     let f = c .before .before .before .before in
-    let st = f .before .before .before in
+    let st = f .before .before .before .before in
     let a = st .args in
-    pack-is (a .sort) (a .track) (a .number) (a .position) (a .text .now) (f .fill .last .1 .0) (c .check-of .result) (st .pre) (f .fill .ensures .buffer) (c .check-of .ensures)
+    pack-is (a .sort) (a .track) (a .number) (a .position) (a .text .now) (f .fill .last .1 .0) (c .check-by .result) (st .pre .1) (f .fill .ensures .buffer) (c .check-by .ensures)
 
 pub pack-of-spec : {M : Type 1} → statement M
 pack-of-spec =
@@ -73,10 +73,10 @@ pack-of-spec =
     part-p-start
     part-p-end
     fill-requires
-    sub-check-of
-    part-check-of-start
-    part-check-of-end
-    check-of-requires
+    sub-check-by
+    part-check-by-start
+    part-check-by-end
+    check-by-requires
     cast-p
     array-write-p-5
     cast-p-2

@@ -15,17 +15,11 @@ size-pack-requires c κs = search needs
 put-pack-requires : tie.Need-put-pack-requires
 put-pack-requires c κs = search needs
 
-add-put-pack : tie.Need-add-put-pack
-add-put-pack c = search needs
-
 size-pack-requires-2 : tie.Need-size-pack-requires-2
 size-pack-requires-2 c κs = search needs
 
 put-pack-requires-2 : tie.Need-put-pack-requires-2
 put-pack-requires-2 c κs = search needs
-
-add-put-pack-2 : tie.Need-add-put-pack-2
-add-put-pack-2 c = search needs
 
 size-pack-requires-3 : tie.Need-size-pack-requires-3
 size-pack-requires-3 c κs = search needs
@@ -45,10 +39,9 @@ returns c =
     let p1 = s2 .before .before .before .before in
     let s1 = p1 .before in
     let g = s1 .before .before .size-record in
-    let st = s1 .before .before .before .before in
-    let a = st .args in
+    let a = s1 .before .before .before .before .before .args in
     let n = a .n in
-    put-three (a .out .now) (s1 .size-pack .result) (s2 .size-pack2 .result) (s3 .size-pack3 .result) (p1 .put-pack .last .0) (p2 .put-pack2 .last .0) (p3 .put-pack3 .last .0) n (st .pre .2) (ap length (s1 .size-pack .ensures) ∙ size-length (g .result) n 0) (ap length (s2 .size-pack2 .ensures) ∙ size-length (g .result) n 1) (p1 .put-pack .ensures) (p2 .put-pack2 .ensures) (p3 .put-pack3 .ensures)
+    put-three (a .out .now) (s1 .size-pack .result) (s2 .size-pack2 .result) (s3 .size-pack3 .result) (p1 .put-pack .last .0) (p2 .put-pack2 .last .0) (p3 .put-pack3 .last .0) (ap length (s1 .size-pack .ensures) ∙ size-length (g .result) n 0) (ap length (s2 .size-pack2 .ensures) ∙ size-length (g .result) n 1) (p1 .put-pack .ensures) (p2 .put-pack2 .ensures) (p3 .put-pack3 .ensures)
     ∙ rw (s1 .size-pack .ensures, s2 .size-pack2 .ensures, s3 .size-pack3 .ensures, g .ensures)
 
 pub put-sizes-spec : {M : Type 1} → statement M
@@ -58,10 +51,8 @@ put-sizes-spec =
     size-record-requires
     size-pack-requires
     put-pack-requires
-    add-put-pack
     size-pack-requires-2
     put-pack-requires-2
-    add-put-pack-2
     size-pack-requires-3
     put-pack-requires-3
     same-length

@@ -5,16 +5,16 @@ use Rattle.cdtext.proofs.packs.put_texts.Statement.{statement}
 use Rattle.cdtext.proofs.packs.put_texts.Tie as tie
 
 abbrev Inv-loop : tie.InvT-loop
-Inv-loop run n out₀ place₀ k₀ out place k = Putting run n out₀ out place k
+Inv-loop table run n out₀ place₀ k₀ out place k = Putting run n out₀ out place k
 
 abbrev μ-loop : tie.MeasureT-loop
-μ-loop run n out₀ place₀ k₀ out place k = n - k
+μ-loop table run n out₀ place₀ k₀ out place k = n - k
 
 loop-holds : tie.Need-loop-holds Inv-loop μ-loop
 loop-holds c =
-    let st = c .before .before in
+    let st = c .before .before .before in
     let a = st .args in
-    putting-start (a .run .now) (a .n) (a .out .now) (st .pre .0) (st .pre .1)
+    putting-start (a .run .now) (a .n) (a .out .now) (st .pre .1) (st .pre .2)
 
 mul-at : tie.Need-mul-at Inv-loop μ-loop
 mul-at c = search needs
@@ -62,7 +62,7 @@ loop-again c =
     let q = p .before in
     let e = q .before .before .before in
     let l = e .before .before in
-    let a = l .before .before .before .args in
+    let a = l .before .before .before .before .args in
     let v = l .loop in
     putting-next (a .run .now) (a .n) (a .out .now) (v .out) (v .place) (v .k) (v .inv) (search needs) (e .piece-end .result) (q .position-of .result) (e .piece-end .ensures) (q .position-of .ensures) (p .pack-of .result) (o .put-pack .last .0) (p .pack-of .ensures) (o .put-pack .ensures) (o .put-pack .kept .0) (c .place-after .result) (c .place-after .ensures)
 
@@ -72,7 +72,7 @@ same-length c = c .before .loop .inv .long
 returns : tie.Need-returns Inv-loop μ-loop
 returns c =
     let l = c .before in
-    let a = l .before .before .before .args in
+    let a = l .before .before .before .before .args in
     let v = l .loop in
     putting-end (a .run .now) (a .n) (a .out .now) (v .out) (v .place) (v .k) (v .inv) (search needs)
 

@@ -1,10 +1,11 @@
 use mathlib.Core.Path.{_≡_, sym, _∙_}
 use mathlib.Core.Bool.{true}
+use Prim.Native.Nat.{_+_, _≤_}
 use native.Mathlib.Omega.{arith}
 use lib.ListN.{length}
 use borrow.Author.Tests.{not-true, not-false}
 use borrow.Author.Needs.{needs}
-use Rattle.cdtext.specs.Packs.{packsSize}
+use Rattle.cdtext.specs.Packs.{longestRun, packsSize}
 use Rattle.cdtext.proofs.packs.Runs.{sized, run-is, run-ends, refused, not-size, reads}
 use Rattle.cdtext.proofs.packs.read_packs.Statement.{statement}
 use Rattle.cdtext.proofs.packs.read_packs.Tie as tie
@@ -22,8 +23,8 @@ returns c =
     let b = a .b .now in
     reads (refused b (a .out .now) (not-size b (sym (k .packs-size .ensures) ∙ not-true (k .packs-size .result) (c .if1 .taken))))
 
-sub-put-text : tie.Need-sub-put-text
-sub-put-text c =
+sub-n : tie.Need-sub-n
+sub-n c =
     let w = sized _ (good c) in
     omega arith
 
@@ -35,19 +36,34 @@ put-text-requires c κs =
     let w = sized _ (good (c .before)) in
     (omega arith, omega arith)
 
-slice-aggregate-trimmed-length : tie.Need-slice-aggregate-trimmed-length
-slice-aggregate-trimmed-length c = search needs
+mul-size : tie.Need-mul-size
+mul-size c =
+    let w = sized _ (good (c .before .before .before)) in
+    omega arith
+
+sub-trimmed-length : tie.Need-sub-trimmed-length
+sub-trimmed-length c = search needs
+
+part-trimmed-length-start : tie.Need-part-trimmed-length-start
+part-trimmed-length-start c = search needs
+
+part-trimmed-length-end : tie.Need-part-trimmed-length-end
+part-trimmed-length-end c =
+    let w = sized _ (good (c .before .before .before .before)) in
+    omega arith
 
 trimmed-length-requires : tie.Need-trimmed-length-requires
 trimmed-length-requires c κs = search needs
 
-add-end : tie.Need-add-end
-add-end c =
-    let p = c .before .before .before in
+ends : (c : tie.After-trimmed-length) → c .trimmed-length .result + 1 ≤ longestRun + 1
+ends c =
+    let p = c .before .before .before .before in
     let i = p .before .before in
     let b = i .before .before .before .before .args .b .now in
-    let h = run-ends b (p .put-text .last .1 .1 .0) (good i) (p .put-text .ensures) in
-    omega (arith, c .trimmed-length .ensures)
+    run-ends b (p .put-text .last .1 .1 .0) (c .trimmed-length .result) (good i) (p .put-text .ensures) (c .trimmed-length .ensures)
+
+add-end : tie.Need-add-end
+add-end c = omega (arith, ends c)
 
 sub-read-run : tie.Need-sub-read-run
 sub-read-run c = search needs
@@ -56,18 +72,12 @@ part-read-run-start : tie.Need-part-read-run-start
 part-read-run-start c = search needs
 
 part-read-run-end : tie.Need-part-read-run-end
-part-read-run-end c =
-    let t = c .before in
-    let p = t .before .before .before in
-    let i = p .before .before in
-    let b = i .before .before .before .before .args .b .now in
-    let h = run-ends b (p .put-text .last .1 .1 .0) (good i) (p .put-text .ensures) in
-    omega (arith, t .trimmed-length .ensures)
+part-read-run-end c = omega (arith, ends (c .before))
 
 read-run-requires : tie.Need-read-run-requires
 read-run-requires c κs =
     let t = c .before .before .before in
-    let p = t .before .before .before in
+    let p = t .before .before .before .before in
     let i = p .before .before in
     let b = i .before .before .before .before .args .b .now in
     (good i, run-is b (p .put-text .last .1 .1 .0) (t .trimmed-length .result) (good i) (p .put-text .ensures) (t .trimmed-length .ensures))
@@ -84,10 +94,13 @@ read-packs-spec =
     (tie.spec
     packs-size-requires
     returns
-    sub-put-text
+    sub-n
     slice-aggregate-put-text
     put-text-requires
-    slice-aggregate-trimmed-length
+    mul-size
+    sub-trimmed-length
+    part-trimmed-length-start
+    part-trimmed-length-end
     trimmed-length-requires
     add-end
     sub-read-run

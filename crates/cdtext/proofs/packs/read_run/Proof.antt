@@ -2,14 +2,12 @@ use mathlib.Core.Path.{ap, sym, _∙_}
 use borrow.Author.Tests.{not-true, not-false}
 use borrow.Author.Needs.{needs}
 use Rattle.mmc.specs.Refusals.{madeOf}
-use Rattle.cdtext.proofs.packs.Runs.{sized, refused, by-packs, filled, only-short}
+use Rattle.cdtext.proofs.packs.Runs.{refused, by-packs, filled, only-short}
 use Rattle.cdtext.proofs.packs.read_run.Statement.{statement}
 use Rattle.cdtext.proofs.packs.read_run.Tie as tie
 
 gives-requires : tie.Need-gives-requires
-gives-requires c κs =
-    let st = c .before .before .before in
-    sized _ (st .pre .0) .1
+gives-requires c κs = c .before .before .before .pre
 
 returns : tie.Need-returns
 returns c =

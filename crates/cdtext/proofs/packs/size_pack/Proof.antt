@@ -36,7 +36,7 @@ pack-of-requires c κs = search needs
 returns : tie.Need-returns
 unfolding sizePack
 returns c =
-    let a = c .before .before .before .args in
+    let a = c .before .before .before .before .args in
     let e : 12 * a .i + 12 - 12 * a .i ≡ 12 = omega arith in
     c .pack-of .ensures ∙ rw e
 
