@@ -57,7 +57,8 @@ fn main() -> ExitCode {
     }
 }
 
-/// What a program wrote, and how it ended where that is not with exit status 0.
+/// What a program wrote, and what is wrong with how it ended: another exit
+/// status than 0, or words on standard error.
 struct Ran {
     output: Vec<u8>,
     fault: Option<String>,
@@ -69,7 +70,6 @@ fn ran_on(program: &str, input: &Path) -> Result<Ran, String> {
     let input = File::open(input).map_err(|error| format!("{}: {error}", input.display()))?;
     let output = command(program)?
         .stdin(Stdio::from(input))
-        .stderr(Stdio::inherit())
         .output()
         .map_err(fault)?;
     Ok(ran(output))
@@ -81,6 +81,7 @@ fn ran_with(program: &str, input: &[u8]) -> Result<Ran, String> {
     let mut child = command(program)?
         .stdin(Stdio::piped())
         .stdout(Stdio::piped())
+        .stderr(Stdio::piped())
         .spawn()
         .map_err(fault)?;
     let stdin = child.stdin.take();
@@ -93,18 +94,24 @@ fn ran_with(program: &str, input: &[u8]) -> Result<Ran, String> {
 }
 
 fn ran(output: Output) -> Ran {
-    let fault = (!output.status.success()).then(|| output.status.to_string());
+    let said = String::from_utf8_lossy(&output.stderr);
+    let fault = match (output.status.success(), said.trim_end()) {
+        (true, "") => None,
+        (true, said) => Some(format!("`{said}` on standard error")),
+        (false, said) => Some(format!("{} {said}", output.status)),
+    };
     Ran {
         output: output.stdout,
         fault,
     }
 }
 
-/// Whether each program ended with exit status 0; tells how another one ended.
+/// Whether each program ended with exit status 0 and said nothing on standard
+/// error; tells how another one ended.
 fn ended_well(programs: &[(&str, &Ran)]) -> bool {
     for (program, ran) in programs {
         if let Some(fault) = &ran.fault {
-            println!("{program}: ended with {fault} in the place of exit status 0");
+            println!("{program}: ended with {fault}, in the place of exit status 0 and no word on standard error");
         }
     }
     programs.iter().all(|(_, ran)| ran.fault.is_none())

@@ -6,10 +6,10 @@ use Rattle.bench_layouts.proofs.readers.add_tracks.Statement.{statement
 use Rattle.bench_layouts.proofs.readers.add_tracks.Tie as tie
 
 abbrev Inv-loop : tie.InvT-loop
-Inv-loop line₀ at kinds count tracks n end₀ i₀ line end i = length line ≡ length line₀
+Inv-loop line₀ at count tracks n end₀ i₀ line end i = length line ≡ length line₀
 
 abbrev μ-loop : tie.MeasureT-loop
-μ-loop line₀ at kinds count tracks n end₀ i₀ line end i = 99 - i
+μ-loop line₀ at count tracks n end₀ i₀ line end i = 99 - i
 
 loop-holds : tie.Need-loop-holds Inv-loop μ-loop
 loop-holds c = search needs
