@@ -14,7 +14,7 @@ use Rattle.recorder.specs.Answers.{Ruling, issue, done, stop}
 use Rattle.recorder.specs.Job.{Next, unchanged, takeOf, giveOf}
 use Rattle.recorder.specs.declared.answers.Cdb.{Cdb}
 use Rattle.recorder.specs.declared.job.Recorder.{Recorder}
-use Rattle.lines.specs.Text.{codes}
+use Rattle.ascii.specs.Text.{codes}
 use Rattle.lines.specs.Lines.{longest, lineOf, waitingLine}
 use Rattle.print.specs.declared.run.Run.{Run}
 use Rattle.print.specs.declared.run.Line.{Line}

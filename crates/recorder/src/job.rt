@@ -391,10 +391,9 @@ fn opening_at() -> Progress
     }
 }
 
-// A recorder that has taken no order: a reply to it is 13 and leaves it idle. Its contract also keeps the sheets from the bench, which hold
-// of the definitions that every step meets.
+// A recorder that has taken no order: a reply to it is 13 and leaves it idle.
 pub fn idle() -> Recorder
-    ensures { λ r. ⌜ (Rests r) × StarredSheets × OtherSheets × PollSheets × EraseSheets ⌝ }
+    ensures { λ r. ⌜ Rests r ⌝ }
 {
     let first = opening_at();
     let order = no_order();
@@ -421,9 +420,10 @@ pub fn take(block: &[u8]) -> Step
 }
 
 impl Recorder {
-    // The recorder's own test: one that awaits no reply passes, another where it can stand where it does.
+    // The recorder's own test: one that awaits no reply passes, another where it can stand where it does. Its contract also keeps the
+    // sheets from the bench, which hold of the definitions that every step meets.
     pub fn is_valid(self) -> bool
-        ensures { λ r. ⌜ r ≡ validOf self ⌝ }
+        ensures { λ r. ⌜ (r ≡ validOf self) × StarredSheets × OtherSheets × PollSheets × EraseSheets ⌝ }
     {
         let phase = self.phase;
         if rests_at(phase) {

@@ -12,7 +12,7 @@ use Rattle.mmc.specs.declared.refusals.Made.the-variants as M
 use Rattle.recorder.specs.Replies.{noSense}
 use Rattle.recorder.specs.Job.{restsAt, idleRecorder, takeOf, giveOf}
 use Rattle.recorder.specs.declared.job.Recorder.{Recorder}
-use Rattle.lines.specs.Text.{codes}
+use Rattle.ascii.specs.Text.{codes}
 use Rattle.lines.specs.Shown.{waitingShown, stoppedLine, shownLine, widest}
 use Rattle.watch.specs.declared.stage.Watch.{Watch}
 use Rattle.watch.specs.declared.Sent.{Sent}
