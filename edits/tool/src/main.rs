@@ -156,7 +156,11 @@ fn work(root: &Path, wanted: &Wanted, tally: &Tally) -> Result<(), String> {
     for of in names.iter().filter(|of| wanted.mutants && named(of, "") && !(wanted.names.is_empty() && unpromised(root, of))) {
         let drawn = mutants::drawn(root, of, &wanted.file, wanted.specs, wanted.seed);
         let known = |m: &Mutant| equal.iter().any(|e| e.is(m));
-        mutants.insert(of.clone(), drawn.into_iter().filter(|m| !known(m)).collect());
+        let left: Vec<Mutant> = drawn.into_iter().filter(|m| !known(m)).collect();
+        // a crate of definitions and laws alone has no code to change
+        if !left.is_empty() {
+            mutants.insert(of.clone(), left);
+        }
     }
     if wanted.list {
         mutants.values().for_each(|all| all.iter().take(wanted.count).for_each(|m| println!("{}", m.label())));

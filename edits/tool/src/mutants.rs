@@ -116,7 +116,7 @@ fn begins_item(line: &str, specs: bool) -> bool {
     let bare = line.trim_start();
     match specs {
         true => line.contains(" : ") && !line.starts_with(' '),
-        false => ["fn ", "pub fn", "pub(crate) fn", "const ", "pub const"].iter().any(|s| bare.starts_with(s)),
+        false => ["fn ", "pub fn", "pub(crate) fn", "const ", "pub const", "pub(crate) const"].iter().any(|s| bare.starts_with(s)),
     }
 }
 
@@ -260,6 +260,8 @@ mod tests {
         assert!(!equal_to("g"));
         assert_eq!(item_name("pub(crate) fn f(a: u8) -> u8"), "f");
         assert_eq!(item_name("const A: u8 = 1;"), "A");
+        assert_eq!(item_name("pub(crate) const A: u8 = 1;"), "A");
+        assert!(begins_item("pub(crate) const A: u8 = 1;", false));
         assert!(equal("lore\n").is_err());
     }
 }
