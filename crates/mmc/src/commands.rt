@@ -2,7 +2,6 @@
 // has the drive answer before its work is done.
 ghost use mathlib.Core.Path.{_≡_};
 ghost use mathlib.Core.Bool.{true};
-ghost use Prim.Native.Nat.{_<_};
 ghost use Rattle.mmc.specs.Times.{inRange};
 ghost use Rattle.mmc.specs.Commands.{getConfiguration, readDiscInformation, readTrackInformation, modeSelect, sendCueSheet, twos, writeRange, writeBytes, writeCommand, synchronizeCache, closeTrackSession, testUnitReady, requestSense, blank};
 ghost use Rattle.mmc.specs.Refusals.{pass, Fills};

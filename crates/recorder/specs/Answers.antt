@@ -1,7 +1,7 @@
 -- What the answers say, in document 01's numbers and values.
 use mathlib.Core.Bool.{Bool}
 use mathlib.Core.List.{List, [], _++_}
-use Prim.Native.Nat.{ℕ, _+_, _-_}
+use Prim.Native.Nat.{ℕ, _-_}
 use lib.ListN.{length, take, replicate}
 use Rattle.mmc.specs.Refusals.{Outcome, pass, numberOf, valueOr}
 use Rattle.mmc.specs.Sheet.{sheetBytes}

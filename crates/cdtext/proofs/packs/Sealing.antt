@@ -1,7 +1,7 @@
 -- A pack as it is built: four bytes, the text over zeros, and the check bytes behind them.
 use mathlib.Core.Path.{_≡_, ap, _∙_}
 use mathlib.Core.List.{List, [], _∷_, _++_, append-assoc}
-use Prim.Native.Nat.{ℕ, zero, _+_, _-_, _/_, _%_, _≤_}
+use Prim.Native.Nat.{ℕ, zero, _-_, _/_, _%_, _≤_}
 use native.Mathlib.Omega.{arith}
 use lib.ListN.{length, take, set, replicate, length-append, length-replicate}
 use lib.Seq.{take-at, set-at}

@@ -5,7 +5,7 @@ use native.Mathlib.Decide.{decLt}
 use mathlib.Core.Path.{_≡_, sym, ap, _∙_}
 use mathlib.Core.Bool.{Bool, true, false, _&&_}
 use mathlib.Core.Logic.{⊎-elim}
-use lib.IntN.{ℤ, pos, _+ℤ_, _-ℤ_, natAbs, +ℤ-negℤ-cancel, -ℤ-+ℤ-cancel}
+use lib.IntN.{ℤ, pos, _-ℤ_, natAbs, +ℤ-negℤ-cancel, -ℤ-+ℤ-cancel}
 use lib.Dec.{leb}
 use borrow.Author.Tests.{le-leb, leb-true}
 use Rattle.mmc.specs.Times.{inRange, framesTo, addressAt, clock, isTime, framesOf, timeOf, addressOf}

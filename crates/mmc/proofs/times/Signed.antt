@@ -1,5 +1,5 @@
 -- The facts on signed addresses that the proofs cite. Assumes nothing.
-use Prim.Native.Nat.{ℕ, suc, _+_, _-_, _<_, _≤_, _^_, _%_}
+use Prim.Native.Nat.{ℕ, suc, _-_, _<_, _≤_, _^_, _%_}
 use native.Mathlib.Omega.{arith}
 use native.Mathlib.Decide.{decLt}
 use mathlib.Core.Path.{_≡_, refl, sym, ap, _∙_}

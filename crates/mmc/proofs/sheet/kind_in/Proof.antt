@@ -1,4 +1,3 @@
-use Prim.Native.Nat.{_-_}
 use borrow.Author.Tests.{eq-eqb, ne-eqb}
 use Rattle.mmc.proofs.sheet.kind_in.Statement.{statement}
 use Rattle.mmc.proofs.sheet.kind_in.Tie as tie

@@ -1,4 +1,4 @@
-use Prim.Native.Nat.{_+_, _<_}
+use Prim.Native.Nat.{_<_}
 use native.Mathlib.Omega.{arith}
 use mathlib.Core.Path.{_≡_, ap}
 use lib.IntN.{ℤ, pos, _+ℤ_, natAbs}

@@ -17,9 +17,14 @@ returns-2 c =
     let l = i .before .before .before in
     let t = l .before in
     let k = t .before .before .before .before .before in
-    let r = k .before .before .args .self in
-    (rw (sym (k .before .rests-at .ensures) ∙ k .if1 .left)
-    (tested-so (r .order) (r .progress) (t .track-of .ensures) (l .piece-length .ensures) (i .before .before .piece-length2 .ensures) (c .before .before .stands-polled .ensures) (i .before .stands-erasing .ensures) (i .stands-in .ensures) (c .before .both .ensures) (c .both2 .ensures) .test-is), starred-sheets, other-sheets, poll-sheets, erase-sheets)
+    let r = k .before .before .args .self in (
+      rw (sym (k .before .rests-at .ensures) ∙ k .if1 .left)
+          (tested-so (r .order) (r .progress) (t .track-of .ensures) (l .piece-length .ensures) (i .before .before .piece-length2 .ensures) (c .before .before .stands-polled .ensures) (i .before .stands-erasing .ensures) (i .stands-in .ensures) (c .before .both .ensures) (c .both2 .ensures) .test-is),
+      starred-sheets,
+      other-sheets,
+      poll-sheets,
+      erase-sheets,
+    )
 
 pub is-valid-spec : {M : Type 1} → statement M
 is-valid-spec =
