@@ -5,7 +5,7 @@ use Rattle.mmc.specs.Block.{checkSum, sealed, blockFault, blockRead}
 use Rattle.mmc.specs.Order.{allNone, validOrder, allKind, allLong, blocksOf, mixedOrKept, overlong}
 use Rattle.mmc.specs.OrderBlock.{methodOf, keepOf, protectOf, immedOf, eraseOf, row, rows, orderBody, orderBytes, orderBlock, trackOf, tracksOf, kindsOk, fieldsOf, headOk, orderOk, readOrder}
 use Rattle.mmc.specs.Times.{inRange, framesTo, timeOf}
-use Rattle.mmc.specs.Page.{page}
+use Rattle.mmc.specs.Page.{page, pageFault}
 use Rattle.mmc.specs.Sheet.{sheetFault, cueEntry, leadInEntry, pauseEntry, startEntry, leadOutEntry, trackEntries, sheetOf, cueSheet}
 use Rattle.mmc.specs.Commands.{writeRange, writeBytes, writeCommand, closeTrackSession}
 use Rattle.mmc.specs.Bench.{LayoutSheets, LayoutCases}
@@ -25,9 +25,10 @@ layout-sheets =
     }
 
 pub layout-cases : LayoutCases
-unfolding bytes32 be32 sumOf allZero checkSum sealed blockFault blockRead allNone validOrder methodOf keepOf protectOf immedOf eraseOf trackOf tracksOf kindsOk fieldsOf headOk orderOk readOrder closeTrackSession
+unfolding bytes32 be32 sumOf allZero checkSum sealed blockFault blockRead allNone validOrder methodOf keepOf protectOf immedOf eraseOf trackOf tracksOf kindsOk fieldsOf headOk orderOk readOrder closeTrackSession allKind allLong blocksOf mixedOrKept overlong sheetFault pageFault
 layout-cases =
     record {
+      mixed-or-kept = refl;
       immed = refl;
       erase = refl;
       flags = refl;

@@ -2,7 +2,7 @@
 -- ones takes in; and cases that carry no mark, of document 02.
 use mathlib.Core.Path.{_≡_}
 use mathlib.Core.List.{List, [], _∷_, _++_, map}
-use mathlib.Core.Bool.{Bool, true, false}
+use mathlib.Core.Bool.{Bool, true, false, not}
 use Prim.Native.Nat.{ℕ, _-_, min}
 use lib.IntN.{ℤ, pos, negsuc}
 use lib.ListN.{take, replicate}
@@ -11,7 +11,7 @@ use Rattle.mmc.specs.Block.{sealed}
 use Rattle.mmc.specs.Order.{noTrack}
 use Rattle.mmc.specs.OrderBlock.{orderBytes, orderBlock, readOrder}
 use Rattle.mmc.specs.Times.{timeOf}
-use Rattle.mmc.specs.Page.{page}
+use Rattle.mmc.specs.Page.{page, pageFault}
 use Rattle.mmc.specs.Sheet.{sheetFault, cueSheet}
 use Rattle.mmc.specs.Commands.{writeCommand, synchronizeCache, closeTrackSession, testUnitReady, requestSense, blank}
 use Rattle.mmc.specs.declared.units.BlockAddress.{BlockAddress}
@@ -46,6 +46,13 @@ flagsBlock n = sealed (0x01 ∷ 0x01 ∷ n ∷ 0x01 ∷ 0x01 ∷ 0x00 ∷ 0x00 �
 
 abbrev pub flagsOrder : Bool → Bool → Bool → Bool → Order
 flagsOrder keep protect immed erase = order Tao keep protect immed erase 1 (track Data 300 ∷ replicate 98 noTrack)
+
+-- two tracks, the second of another kind or of the first's, kept appendable or not, protected where not kept
+abbrev pub mixed : Method → Bool → Order
+mixed m keep = order m keep (not keep) false false 2 (track Audio 300 ∷ track Data 300 ∷ replicate 97 noTrack)
+
+abbrev pub alike : Method → Bool → Order
+alike m keep = order m keep (not keep) false false 2 (track Data 300 ∷ track Data 300 ∷ replicate 97 noTrack)
 
 abbrev pub address : ℤ → BlockAddress
 address z = record { 0 = z }
@@ -113,6 +120,12 @@ pub record LayoutSheets : Type 0 where
 -- ---- those that carry no mark
 
 pub record LayoutCases : Type 0 where
+  -- 8: a session at once of mixed kinds, and one to be kept appendable, of which the page maker judges the second alone; neither in TAO,
+  -- for which there is no sheet: 3
+  pub mixed-or-kept :
+      map sheetFault (mixed Sao false ∷ alike Sao true ∷ alike Sao false ∷ alike Tao false ∷ [])
+      ++ map pageFault (mixed Sao false ∷ alike Sao true ∷ alike Sao false ∷ alike Tao true ∷ [])
+      ≡ (8 ∷ 8 ∷ 0 ∷ 3 ∷ []) ++ (0 ∷ 8 ∷ 0 ∷ 0 ∷ [])
   -- document 02: flag bit 2 is Immed, bit 3 erase; flags 15 pass, 16: 3
   pub immed : readOrder (flagsBlock 4) ≡ pass (flagsOrder false false true false)
   pub erase : readOrder (flagsBlock 8) ≡ pass (flagsOrder false false false true)
