@@ -391,9 +391,10 @@ fn opening_at() -> Progress
     }
 }
 
-// A recorder that has taken no order: a reply to it is 13 and leaves it idle.
+// A recorder that has taken no order: a reply to it is 13 and leaves it idle. Its contract also keeps the sheets from the bench, which hold
+// of the definitions that every step meets.
 pub fn idle() -> Recorder
-    ensures { λ r. ⌜ Rests r ⌝ }
+    ensures { λ r. ⌜ (Rests r) × StarredSheets × OtherSheets × PollSheets × EraseSheets ⌝ }
 {
     let first = opening_at();
     let order = no_order();
@@ -420,10 +421,9 @@ pub fn take(block: &[u8]) -> Step
 }
 
 impl Recorder {
-    // The recorder's own test: one that awaits no reply passes, another where it can stand where it does. Its contract also keeps the
-    // sheets from the bench, which hold of the definitions that every step meets.
+    // The recorder's own test: one that awaits no reply passes, another where it can stand where it does.
     pub fn is_valid(self) -> bool
-        ensures { λ r. ⌜ (r ≡ validOf self) × StarredSheets × OtherSheets × PollSheets × EraseSheets ⌝ }
+        ensures { λ r. ⌜ r ≡ validOf self ⌝ }
     {
         let phase = self.phase;
         if rests_at(phase) {

@@ -1,6 +1,5 @@
-use mathlib.Core.Path.{refl, sym, _∙_}
+use mathlib.Core.Path.{sym, _∙_}
 use Rattle.recorder.specs.Job.{validOf}
-use Rattle.recorder.proofs.Bench.{starred-sheets, other-sheets, poll-sheets, erase-sheets}
 use Rattle.recorder.proofs.job.Laws.{tested-so}
 use borrow.Author.Needs.{needs}
 use Rattle.recorder.proofs.job.Recorder.is_valid.Statement.{statement}
@@ -8,7 +7,7 @@ use Rattle.recorder.proofs.job.Recorder.is_valid.Tie as tie
 
 returns : tie.Need-returns
 unfolding validOf
-returns c = (rw (sym (c .before .rests-at .ensures) ∙ c .if1 .taken) refl, starred-sheets, other-sheets, poll-sheets, erase-sheets)
+returns c = rw (sym (c .before .rests-at .ensures) ∙ c .if1 .taken)
 
 returns-2 : tie.Need-returns-2
 unfolding validOf
@@ -17,14 +16,9 @@ returns-2 c =
     let l = i .before .before .before in
     let t = l .before in
     let k = t .before .before .before .before .before in
-    let r = k .before .before .args .self in (
-      rw (sym (k .before .rests-at .ensures) ∙ k .if1 .left)
-          (tested-so (r .order) (r .progress) (t .track-of .ensures) (l .piece-length .ensures) (i .before .before .piece-length2 .ensures) (c .before .before .stands-polled .ensures) (i .before .stands-erasing .ensures) (i .stands-in .ensures) (c .before .both .ensures) (c .both2 .ensures) .test-is),
-      starred-sheets,
-      other-sheets,
-      poll-sheets,
-      erase-sheets,
-    )
+    let r = k .before .before .args .self in
+    rw (sym (k .before .rests-at .ensures) ∙ k .if1 .left)
+    (tested-so (r .order) (r .progress) (t .track-of .ensures) (l .piece-length .ensures) (i .before .before .piece-length2 .ensures) (c .before .before .stands-polled .ensures) (i .before .stands-erasing .ensures) (i .stands-in .ensures) (c .before .both .ensures) (c .both2 .ensures) .test-is)
 
 pub is-valid-spec : {M : Type 1} → statement M
 is-valid-spec =
