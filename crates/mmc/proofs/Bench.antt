@@ -4,14 +4,14 @@ use Rattle.basics.specs.Bytes.{bytes32, be32, sumOf, allZero}
 use Rattle.mmc.specs.Block.{checkSum, sealed, blockFault, blockRead}
 use Rattle.mmc.specs.Order.{allNone, validOrder, allKind, allLong, blocksOf, mixedOrKept, overlong}
 use Rattle.mmc.specs.OrderBlock.{methodOf, keepOf, protectOf, immedOf, eraseOf, row, rows, orderBody, orderBytes, orderBlock, trackOf, tracksOf, kindsOk, fieldsOf, headOk, orderOk, readOrder}
-use Rattle.mmc.specs.Times.{inRange, framesTo, timeOf}
+use Rattle.mmc.specs.Times.{inRange, hasTime, framesTo, timeFrames, timeOf}
 use Rattle.mmc.specs.Page.{page, pageFault}
 use Rattle.mmc.specs.Sheet.{sheetFault, cueEntry, leadInEntry, pauseEntry, startEntry, leadOutEntry, trackEntries, sheetOf, cueSheet}
 use Rattle.mmc.specs.Commands.{writeRange, writeBytes, writeCommand, closeTrackSession}
 use Rattle.mmc.specs.Bench.{LayoutSheets, LayoutCases}
 
 pub layout-sheets : LayoutSheets
-unfolding bytes32 be32 sumOf allZero checkSum sealed blockFault blockRead allNone validOrder allKind allLong blocksOf mixedOrKept overlong methodOf keepOf protectOf immedOf eraseOf row rows orderBody orderBytes orderBlock trackOf tracksOf kindsOk fieldsOf headOk orderOk readOrder inRange framesTo timeOf page sheetFault cueEntry leadInEntry pauseEntry startEntry leadOutEntry trackEntries sheetOf cueSheet writeRange writeBytes writeCommand closeTrackSession
+unfolding bytes32 be32 sumOf allZero checkSum sealed blockFault blockRead allNone validOrder allKind allLong blocksOf mixedOrKept overlong methodOf keepOf protectOf immedOf eraseOf row rows orderBody orderBytes orderBlock trackOf tracksOf kindsOk fieldsOf headOk orderOk readOrder inRange hasTime framesTo timeFrames timeOf page sheetFault cueEntry leadInEntry pauseEntry startEntry leadOutEntry trackEntries sheetOf cueSheet writeRange writeBytes writeCommand closeTrackSession
 layout-sheets =
     record {
       block = refl;

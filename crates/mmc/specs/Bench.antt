@@ -78,9 +78,9 @@ Counts = map readOf (counting 0 ∷ counting 100 ∷ counting 1 ∷ counting 99 
 abbrev pub Lengths : Type 0
 Lengths = map sheetFault (oneData 299 ∷ oneData 300 ∷ []) ≡ 9 ∷ 0 ∷ []
 
--- "SAO with S 449,849 and room passes; 449,850: 10."
+-- "SAO with S 449,849 and room passes; 449,850: 10.", which document 02 moves to 404,849 and 404,850
 abbrev pub LeadOuts : Type 0
-LeadOuts = map sheetFault (oneData 449849 ∷ oneData 449850 ∷ []) ≡ 0 ∷ 10 ∷ []
+LeadOuts = map sheetFault (oneData 404849 ∷ oneData 404850 ∷ []) ≡ 0 ∷ 10 ∷ []
 
 -- "Audio 300 and 450"
 abbrev pub Entries : Type 0
@@ -97,11 +97,11 @@ Entries =
 abbrev pub PageStart : Type 0
 PageStart = take 5 (page (flagsOrder true true false false) Data) ≡ 0x05 ∷ 0x32 ∷ 0x41 ∷ 0xC4 ∷ 0x08 ∷ []
 
--- "-150 is 00:00:00, 0 is 00:02:00, 449,849 is 99:59:74; -151 is refused, 15."
+-- "-150 is 00:00:00, 0 is 00:02:00", and by document 02 "404,849, whose time is 89:59:74", "-151 becomes 99:59:74 and -45,151 is refused, 15"
 abbrev pub Times : Type 0
 Times =
-    map timeOf (address (negsuc 149) ∷ address (pos 0) ∷ address (pos 449849) ∷ address (negsuc 150) ∷ [])
-    ≡ pass (time 0 0 0) ∷ pass (time 0 2 0) ∷ pass (time 99 59 74) ∷ refuse 15 ∷ []
+    map timeOf (address (negsuc 149) ∷ address (pos 0) ∷ address (pos 404849) ∷ address (negsuc 150) ∷ address (negsuc 45150) ∷ [])
+    ≡ pass (time 0 0 0) ∷ pass (time 0 2 0) ∷ pass (time 89 59 74) ∷ pass (time 99 59 74) ∷ refuse 15 ∷ []
 
 -- "First SAO WRITE: 2A 00 FF FF FF 6A 00 00 10 00."
 abbrev pub FirstWrite : Type 0

@@ -39,7 +39,7 @@ abbrev pub twos : ℤ → ℕ
 twos (pos n) = n
 twos (negsuc n) = 2 ^ 32 - suc n
 
--- WRITE: 2Ah, address (-150 to 449,849) in 2 to 5, count 1 to 16 in 7, 8
+-- WRITE: 2Ah, address (-150 to 404,849) in 2 to 5, count 1 to 16 in 7, 8
 abbrev pub mostBlocks : ℕ
 mostBlocks = 16
 

@@ -1,5 +1,5 @@
--- Block addresses and times: "Time in frames is address plus 150, 75 frames a second, 60 seconds a minute,
--- for addresses -150 to 449,849, both ways".
+-- Block addresses and times, both ways, 75 frames a second, 60 seconds a minute: "minutes 90 to 99 stand for the addresses -45,150 to
+-- -151, and time in frames is address plus 450,150. Minutes 0 to 89 keep the old sum", address plus 150.
 use mathlib.Core.Path.{_≡_}
 use Prim.Native.Nat.{ℕ, _+_, _*_, _/_, _%_}
 use mathlib.Core.Bool.{Bool, _&&_}
@@ -16,9 +16,9 @@ use Rattle.mmc.specs.declared.times.TimeAnswer.the-variants as T
 use Rattle.mmc.specs.declared.times.AddressAnswer.{AddressAnswer}
 use Rattle.mmc.specs.declared.times.AddressAnswer.the-variants as A
 
--- the last address that has a time, also the last for a lead-out
+-- the last address that has a time, 89:59:74, also the last for a lead-out
 abbrev pub lastAddress : ℕ
-lastAddress = 449849
+lastAddress = 404849
 
 -- the frames before address 0
 abbrev pub leadFrames : ℕ
@@ -28,15 +28,30 @@ leadFrames = 150
 abbrev pub allFrames : ℕ
 allFrames = 450000
 
--- the first address that has a time, where the pause of a session at once starts (`negsuc n` is -(n + 1))
+-- the first address of the program area, 00:00:00, where the pause of a session at once starts (`negsuc n` is -(n + 1))
 abbrev pub firstAddress : ℤ
 firstAddress = negsuc 149
 
--- -150 to 449,849
+-- the first address of the lead-in that has a time, 90:00:00
+abbrev pub leadInAddress : ℤ
+leadInAddress = negsuc 45149
+
+-- from this minute on a time lies in the lead-in, so many frames ahead of its address
+abbrev pub leadInMinute : ℕ
+leadInMinute = 90
+
+abbrev pub leadInFrames : ℕ
+leadInFrames = 450150
+
+-- the program area: -150 to 404,849
 unfoldable pub inRange : BlockAddress → Bool
 inRange a = leZ firstAddress (a .0) && leZ (a .0) (pos lastAddress)
 
--- the frames to an address, and the address at a count of frames
+-- the lead-in and the program area: -45,150 to 404,849
+unfoldable pub hasTime : BlockAddress → Bool
+hasTime a = leZ leadInAddress (a .0) && leZ (a .0) (pos lastAddress)
+
+-- in the program area, the frames to an address and the address at a count of frames
 unfoldable pub framesTo : BlockAddress → FrameCount
 framesTo a = record { 0 = natAbs (a .0 +ℤ pos leadFrames) }
 
@@ -53,16 +68,23 @@ clock f = record { minute = f .0 / 75 / 60; second = f .0 / 75 % 60; frame = f .
 abbrev pub framesOf : Time → FrameCount
 framesOf t = record { 0 = (t .minute * 60 + t .second) * 75 + t .frame }
 
+-- the time of an address in frames, and the address of a time
+unfoldable pub timeFrames : BlockAddress → FrameCount
+timeFrames a = if (leZ firstAddress (a .0)) (framesTo a) (record { 0 = natAbs (a .0 +ℤ pos leadInFrames) })
+
+unfoldable pub addressAtTime : Time → BlockAddress
+addressAtTime t = if (leb leadInMinute (t .minute)) (record { 0 = pos (framesOf t .0) -ℤ pos leadInFrames }) (addressAt (framesOf t))
+
 -- the time of an address that has one
 abbrev pub timeAt : BlockAddress → Time
-timeAt a = clock (framesTo a)
+timeAt a = clock (timeFrames a)
 
 -- the time of an address and the address of a time: 15 outside the range
 unfoldable pub timeOf : BlockAddress → Outcome Time
-timeOf a = if (inRange a) (pass (timeAt a)) (refuse 15)
+timeOf a = if (hasTime a) (pass (timeAt a)) (refuse 15)
 
 unfoldable pub addressOf : Time → Outcome BlockAddress
-addressOf t = if (isTime t) (pass (addressAt (framesOf t))) (refuse 15)
+addressOf t = if (isTime t) (pass (addressAtTime t)) (refuse 15)
 
 -- what the answers say
 abbrev pub timeIn : TimeAnswer → Outcome Time

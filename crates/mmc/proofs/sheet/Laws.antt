@@ -12,7 +12,7 @@ use Rattle.basics.specs.Bytes.{sameBytes}
 use Rattle.basics.proofs.Tests.{false-true, both, known}
 use Rattle.basics.proofs.Bytes.{same-is, same-refl}
 use Rattle.mmc.specs.Order.{noTrack, isNone, isAudio, allNone, validOrder, sameKind, tracksIn, orderKind, mixedOrKept, overlong, allKind, allLong, leastBlocks}
-use Rattle.mmc.specs.Times.{framesTo}
+use Rattle.mmc.specs.Times.{framesTo, timeFrames}
 use Rattle.mmc.specs.Sheet.{sheetFault, controlOf, cueEntry, leadInEntry, pauseEntry, startEntry, leadOutEntry, trackEntries, allEntries, sheetOf, sheetBytes, framesIn, kindIn, lengthIn, lengthsIn, noLength, tracksBeside, sheetIn, sheetSize, trackFor, orderFor, isSheet, readSheet, cueSheet, lengthOf, sheetFor, timesIn, Below, Rising, Ordered}
 use Rattle.mmc.proofs.refusals.Laws.{without-fault}
 use Rattle.mmc.proofs.sheet.Entries.{address, number, entries-length, Sheeted, sheeted}
@@ -32,7 +32,7 @@ clock-back f = omega arith
 
 -- the first entry's time, where the first track starts at an address
 starts : (k : Kind) (n at : ℕ) (ts : List Track) → framesIn (trackEntries k (number n) (address at) ts) .0 ≡ at + 150
-unfolding framesIn trackEntries cueEntry startEntry leadOutEntry framesTo
+unfolding framesIn trackEntries cueEntry startEntry leadOutEntry framesTo timeFrames
 starts k n at [] = clock-back (at + 150)
 starts k n at (t ∷ ts) = clock-back (at + 150)
 

@@ -1,18 +1,19 @@
 -- Addresses and times, both ways. Assumes nothing.
-use Prim.Native.Nat.{suc, _+_, _-_, _<_, _≤_}
+use Prim.Native.Nat.{ℕ, suc, _+_, _-_, _<_, _≤_}
 use native.Mathlib.Omega.{arith}
 use native.Mathlib.Decide.{decLt}
 use mathlib.Core.Path.{_≡_, sym, ap, _∙_}
 use mathlib.Core.Bool.{Bool, true, false, _&&_}
 use mathlib.Core.Logic.{⊎-elim}
-use lib.IntN.{ℤ, pos, _-ℤ_, natAbs, +ℤ-negℤ-cancel, -ℤ-+ℤ-cancel}
+use lib.IntN.{ℤ, pos, negsuc, _+ℤ_, _-ℤ_, natAbs, +ℤ-negℤ-cancel, -ℤ-+ℤ-cancel}
 use lib.Dec.{leb}
-use borrow.Author.Tests.{le-leb, leb-true}
-use Rattle.mmc.specs.Times.{inRange, framesTo, addressAt, clock, isTime, framesOf, timeOf, addressOf}
+use borrow.Author.Tests.{le-leb, lt-leb, leb-true, leb-false, lt-ltb}
+use lib.Signed.{leZ}
+use Rattle.mmc.specs.Times.{firstAddress, lastAddress, leadInMinute, leadInFrames, inRange, hasTime, framesTo, addressAt, timeFrames, addressAtTime, clock, isTime, framesOf, timeAt, timeOf, addressOf}
 use Rattle.basics.proofs.Tests.{both, known}
 use Rattle.mmc.specs.Refusals.{pass, refuse}
 use Rattle.basics.proofs.Signed.{less}
-use Rattle.mmc.proofs.times.Signed.{frames}
+use Rattle.mmc.proofs.times.Signed.{frames, range-time, time-range, in-program, in-lead-in, few-frames}
 use Rattle.mmc.specs.declared.units.BlockAddress.{BlockAddress}
 use Rattle.mmc.specs.declared.units.FrameCount.{FrameCount}
 use Rattle.mmc.specs.declared.times.Time.{Time}
@@ -51,7 +52,7 @@ clock-back t h =
 pub frames-small : (t : Time) → isTime t ≡ true → framesOf t .0 < 450000
 frames-small t h = omega (arith, time-parts t h)
 
--- an address as a count of frames, and back
+-- in the program area, an address as a count of frames, and back
 address-back : (a : BlockAddress) → inRange a ≡ true → addressAt (framesTo a) ≡ a
 unfolding addressAt
 address-back a h =
@@ -61,23 +62,69 @@ frames-back : (f : FrameCount) → framesTo (addressAt f) ≡ f
 unfolding framesTo addressAt
 frames-back f = ap (λ (x : ℤ). record { 0 = natAbs x }) (-ℤ-+ℤ-cancel (pos (f .0)) (pos 150))
 
-range-back : (f : FrameCount) → f .0 < 450000 → inRange (addressAt f) ≡ true
+-- the count lies before minute 90, or from there on
+early : (f : FrameCount) → f .0 < 405000 → leb leadInMinute (clock f .minute) ≡ false
+early f h = lt-leb leadInMinute (clock f .minute) (omega arith)
+
+late : (f : FrameCount) → 405000 ≤ f .0 → leb leadInMinute (clock f .minute) ≡ true
+late f h = le-leb leadInMinute (clock f .minute) (omega arith)
+
+-- in the lead-in, the address at a count of frames
+abbrev leadInAt : FrameCount → BlockAddress
+leadInAt f = record { 0 = pos (f .0) -ℤ pos leadInFrames }
+
+-- an address that has a time comes back from it
+time-back : (a : BlockAddress) → hasTime a ≡ true → addressAtTime (timeAt a) ≡ a
+unfolding addressAtTime
+time-back a h =
+    known (leZ firstAddress (a .0))
+    (λ l. let r = time-range a h l in rw (in-program a l) (simp (early (framesTo a) (frames a r .1), count-back, address-back a r)))
+    (λ l.
+      let w = in-lead-in a h l in
+      let e : leadInAt (timeFrames a) ≡ a = ap (λ (x : ℤ). record { 0 = x }) (ap (λ (x : ℤ). x -ℤ pos leadInFrames) (sym (w .0)) ∙ +ℤ-negℤ-cancel (a .0) (pos leadInFrames)) in
+      simp (late (timeFrames a) (w .1)) (ap leadInAt (count-back (timeFrames a)) ∙ e))
+
+-- the address at a count of frames has a time, which is as many frames: before minute 90, and from there on
+abbrev Found : BlockAddress → FrameCount → Type 0
+Found a f = (hasTime a ≡ true) × (timeFrames a ≡ f)
+
+before : (f : FrameCount) → f .0 < 405000 → (inRange (addressAt f) ≡ true) × (leZ firstAddress (addressAt f .0) ≡ true)
 unfolding inRange addressAt
-range-back f h =
+before f h =
     ⊎-elim
-    (λ w. simp (w .1, le-leb (150 - suc (f .0)) 149 (omega arith)))
-    (λ w. simp (w .1, le-leb (f .0 - 150) 449849 (omega arith)))
+    (λ w. let l = le-leb (150 - suc (f .0)) 149 (omega arith) in (simp (w .1, l), simp (w .1, l)))
+    (λ w. (simp (w .1, le-leb (f .0 - 150) lastAddress (omega arith)), simp (w .1)))
     (less (f .0) 149 (decLt (f .0) 150))
 
+in-minutes-0 : (f : FrameCount) → f .0 < 405000 → Found (addressAt f) f
+in-minutes-0 f h = let w = before f h in (range-time (addressAt f) (w .0), in-program (addressAt f) (w .1) ∙ frames-back f)
+
+in-minutes-90 : (f : FrameCount) → 405000 ≤ f .0 → f .0 < 450000 → Found (leadInAt f) f
+unfolding hasTime timeFrames
+in-minutes-90 f l h =
+    let n : ℕ = leadInFrames - suc (f .0) in
+    let e : pos (f .0) -ℤ pos leadInFrames ≡ negsuc n = simp (lt-ltb (f .0) leadInFrames (omega arith)) in
+    let s : pos (f .0) -ℤ pos leadInFrames +ℤ pos leadInFrames ≡ pos (f .0) = -ℤ-+ℤ-cancel (pos (f .0)) (pos leadInFrames) in
+    let q : leZ firstAddress (pos (f .0) -ℤ pos leadInFrames) ≡ false = rw e (lt-leb n 149 (omega arith)) in
+    (rw e (simp (le-leb n 45149 (omega arith))), simp q (ap (λ (x : ℤ). record { 0 = natAbs x }) s))
+
+found : (t : Time) → isTime t ≡ true → Found (addressAtTime t) (framesOf t)
+unfolding addressAtTime
+found t h =
+    let w = time-parts t h in
+    known (leb leadInMinute (t .minute))
+    (λ e. let l = leb-true leadInMinute (t .minute) e in simp e (in-minutes-90 (framesOf t) (omega (arith, l)) (frames-small t h)))
+    (λ e. let l = leb-false leadInMinute (t .minute) e in simp e (in-minutes-0 (framesOf t) (omega (arith, l, w))))
+
 -- an address in range has a time, whose address it is
-pub there : (a : BlockAddress) → inRange a ≡ true → (t : Time) × (timeOf a ≡ pass t) × (addressOf t ≡ pass a)
+pub there : (a : BlockAddress) → hasTime a ≡ true → (t : Time) × (timeOf a ≡ pass t) × (addressOf t ≡ pass a)
 unfolding timeOf addressOf
-there a h = (clock (framesTo a), simp h, simp (clock-is-time (framesTo a) (frames a h .1), count-back, address-back a h))
+there a h = (timeAt a, simp h, simp (clock-is-time (timeFrames a) (few-frames a h), time-back a h))
 
 -- a time has an address, whose time it is
 pub back : (t : Time) → isTime t ≡ true → (a : BlockAddress) × (addressOf t ≡ pass a) × (timeOf a ≡ pass t)
 unfolding timeOf addressOf
-back t h = (addressAt (framesOf t), simp h, simp (range-back (framesOf t) (frames-small t h), frames-back, clock-back t h))
+back t h = let w = found t h in (addressAtTime t, simp h, simp (w .0, w .1, clock-back t h))
 
 no-address : (t : Time) → isTime t ≡ false → addressOf t ≡ refuse 15
 unfolding addressOf
@@ -87,7 +134,7 @@ no-address t h = simp h
 pub time-address : (a : BlockAddress) (t : Time) → timeOf a ≡ pass t → addressOf t ≡ pass a
 unfolding timeOf
 time-address a t e =
-    known (inRange a)
+    known (hasTime a)
     (λ h. let w = there a h in let x : t ≡ w .0 = cc in rw x (w .2))
     (λ h. let r = simp h at e in cc)
 

@@ -1,10 +1,11 @@
 use borrow.Author.Needs.{needs}
 use Rattle.mmc.specs.Sheet.{cueEntry}
+use Rattle.mmc.proofs.times.Signed.{range-time}
 use Rattle.mmc.proofs.sheet.cue_entry.Statement.{statement}
 use Rattle.mmc.proofs.sheet.cue_entry.Tie as tie
 
 time-at-requires : tie.Need-time-at-requires
-time-at-requires c κs = search needs
+time-at-requires c κs = range-time _ (c .pre .1)
 
 control-requires : tie.Need-control-requires
 control-requires c κs = search needs

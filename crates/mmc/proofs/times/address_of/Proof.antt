@@ -9,20 +9,17 @@ use Rattle.mmc.proofs.times.address_of.Tie as tie
 is-time-requires : tie.Need-is-time-requires
 is-time-requires c κs = search needs
 
-frames-of-requires : tie.Need-frames-of-requires
-frames-of-requires c κs = search needs
-
 held : (c : tie.Then1) → isTime (c .before .before .args .t) ≡ true
 held c = sym (c .before .is-time .ensures) ∙ c .if1 .taken
 
-address-at-requires : tie.Need-address-at-requires
-address-at-requires c κs = search needs
+address-at-time-requires : tie.Need-address-at-time-requires
+address-at-time-requires c κs = search needs
 
 returns : tie.Need-returns
 unfolding addressOf
 returns c =
     record {
-      answer = simp (held (c .before .before), c .address-at .ensures, c .before .frames-of .ensures);
+      answer = simp (held (c .before), c .address-at-time .ensures);
       comes-back = λ a. address-time a _;
     }
 
@@ -33,4 +30,4 @@ returns-2 c =
 
 pub address-of-spec : {M : Type 1} → statement M
 address-of-spec =
-    tie.close (tie.spec is-time-requires frames-of-requires address-at-requires returns returns-2)
+    tie.close (tie.spec is-time-requires address-at-time-requires returns returns-2)
