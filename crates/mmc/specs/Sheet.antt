@@ -9,11 +9,12 @@ use lib.Dec.{eqb, leb}
 use Rattle.basics.specs.Bytes.{if, sameBytes}
 use Rattle.mmc.specs.Refusals.{Outcome, pass, refuse, test, faultOf, checked, valueOr, unless, Fills}
 use Rattle.mmc.specs.Order.{mostTracks, noTrack, validOrder, isSao, tracksIn, orderKind, blocksOf, mixedOrKept, shortTrack, overlong}
-use Rattle.mmc.specs.Times.{firstAddress, lastAddress, timeAt, framesOf}
+use Rattle.mmc.specs.Times.{firstAddress, lastAddress, leadInMinute, timeAt, framesOf, addressOf}
 use Rattle.mmc.specs.declared.units.BlockAddress.{BlockAddress}
 use Rattle.mmc.specs.declared.units.BlockCount.{BlockCount}
 use Rattle.mmc.specs.declared.units.FrameCount.{FrameCount}
 use Rattle.mmc.specs.declared.units.TrackNumber.{TrackNumber}
+use Rattle.mmc.specs.declared.times.Time.{Time}
 use Rattle.mmc.specs.declared.order.Order.{Order}
 use Rattle.mmc.specs.declared.order.Track.{Track}
 use Rattle.mmc.specs.declared.order.Kind.{Kind}
@@ -115,9 +116,12 @@ pub record HasRoom (o : Order) (room : ℕ) : Type 0 where
 abbrev pub kindIn : ℕ → Kind
 kindIn control = if (eqb control 0x41) Data Audio
 
--- the time of an entry
+-- the time of an entry, and in frames
+abbrev pub entryTime : List ℕ → Time
+entryTime b = record { minute = getD b 5 0; second = getD b 6 0; frame = getD b 7 0 }
+
 unfoldable pub framesIn : List ℕ → FrameCount
-framesIn b = framesOf (record { minute = getD b 5 0; second = getD b 6 0; frame = getD b 7 0 })
+framesIn b = framesOf (entryTime b)
 
 -- a track is as long as the next entry's time lies behind its own
 unfoldable pub lengthIn : List ℕ → BlockCount
@@ -199,17 +203,36 @@ pub record Ordered (n : ℕ) (b : List ℕ) : Type 0 where
   pub shared : framesIn b ≡ framesIn (drop 8 b)
   pub rising : Rising (timesIn (n + 1) (drop 16 b))
 
+-- ---- what the times stand for
+
+-- the addresses that the times of n entries stand for
+unfoldable pub addressesIn : ℕ → List ℕ → List (Outcome BlockAddress)
+addressesIn zero b = []
+addressesIn (suc n) b = addressOf (entryTime b) ∷ addressesIn n (drop 8 b)
+
+-- where each track starts, the first at an address, and where the lead-out stands
+unfoldable pub startsFrom : BlockAddress → List Track → List (Outcome BlockAddress)
+startsFrom at [] = pass at ∷ []
+startsFrom at (t ∷ ts) = pass at ∷ startsFrom (behind at (t .length)) ts
+
 -- ---- the contracts
 
--- what the maker promises: the sheet, the length that SEND CUE SHEET bears, that it reads back, and that its times are in order
+-- what the maker promises: the sheet, the length that SEND CUE SHEET bears, that it reads back, that its times are in order, and that
+-- who turns them into addresses finds where the pause, each track and the lead-out were ordered
 pub record MakesSheet (o : Order) (r : Made) (before after : List ℕ) : Type 0 where
   pub filled : Fills (cueSheet o) r before after
   pub size : (b : List ℕ) → cueSheet o ≡ pass b → length b ≡ sheetBytes (o .count)
   pub reads-back : (b : List ℕ) → cueSheet o ≡ pass b → readSheet b ≡ pass (sheetFor o)
   pub ordered : (b : List ℕ) → cueSheet o ≡ pass b → Ordered (o .count) b
+  pub addresses :
+      (b : List ℕ) → cueSheet o ≡ pass b →
+      addressesIn (o .count + 3) b
+      ≡ pass (record { 0 = firstAddress }) ∷ pass (record { 0 = firstAddress }) ∷ startsFrom (record { 0 = pos 0 }) (tracksIn o)
 
--- what the reader promises: kind and lengths, and that the bytes are the sheet that is made of them
+-- what the reader promises: kind and lengths, that the bytes are the sheet that is made of them, and "a sheet with a time of minute 90
+-- or more is 14", in whichever entry
 pub record ReadsSheet (b : List ℕ) (r : SheetRead) : Type 0 where
   pub answer : checked (r .check) (r .sheet) ≡ readSheet b
   pub sheet : r .sheet ≡ valueOr noSheet (readSheet b)
   pub made : (s : Sheet) → readSheet b ≡ pass s → cueSheet (orderFor s) ≡ pass b
+  pub late : (i : ℕ) → leadInMinute ≤ getD b (8 * i + 5) 0 → readSheet b ≡ refuse 14

@@ -5,7 +5,7 @@ use Rattle.mmc.specs.Block.{checkSum, sealed, blockFault, blockRead}
 use Rattle.mmc.specs.OrderBlock.{methodOf, keepOf, protectOf, immedOf, eraseOf, row, rows, orderBody, orderBytes, orderBlock, trackOf, tracksOf, kindsOk, fieldsOf, headOk, orderOk, readOrder}
 use Rattle.mmc.specs.Page.{page}
 use Rattle.mmc.specs.Order.{allNone, validOrder, allKind, allLong, blocksOf, mixedOrKept, overlong}
-use Rattle.mmc.specs.Times.{inRange, framesTo, addressAt, timeOf}
+use Rattle.mmc.specs.Times.{inRange, hasTime, framesTo, addressAt, timeFrames, timeOf}
 use Rattle.mmc.specs.Commands.{writeRange, writeBytes, writeCommand, sendCueSheet, closeTrackSession}
 use Rattle.mmc.specs.Sheet.{sheetSize, sheetFault, cueEntry, leadInEntry, pauseEntry, startEntry, leadOutEntry, trackEntries, sheetOf, cueSheet}
 use Rattle.recorder.specs.Replies.{hasSense, senseOf, longWrite, isBusy, readFailed, notReady, isUnready, readUnready, progressOf, readProgress, wholeProfile, readProfile, wholeDisc, discOf, readDisc, wholeInformation, informationOf, readInformation}
@@ -56,7 +56,7 @@ erase-sheets =
     }
 
 pub starred-sheets : StarredSheets
-unfolding sheetSize sendCueSheet closeTrackSession framesTo bytes32 be32 allKind allLong blocksOf inRange addressAt writeRange writeBytes writeCommand hasSense senseOf longWrite isBusy readFailed wholeProfile readProfile wholeDisc discOf readDisc wholeInformation informationOf readInformation otherProfile unsuitable unusable mixedOrKept fits inOrder inTime inPiece isWrite standsIn sumOf allZero checkSum sealed blockFault blockRead allNone validOrder methodOf keepOf protectOf immedOf eraseOf row rows orderBody orderBytes orderBlock trackOf tracksOf kindsOk fieldsOf headOk orderOk readOrder timeOf page sheetFault overlong cueEntry leadInEntry pauseEntry startEntry leadOutEntry trackEntries sheetOf cueSheet
+unfolding sheetSize sendCueSheet closeTrackSession framesTo bytes32 be32 allKind allLong blocksOf inRange addressAt writeRange writeBytes writeCommand hasSense senseOf longWrite isBusy readFailed wholeProfile readProfile wholeDisc discOf readDisc wholeInformation informationOf readInformation otherProfile unsuitable unusable mixedOrKept fits inOrder inTime inPiece isWrite standsIn sumOf allZero checkSum sealed blockFault blockRead allNone validOrder methodOf keepOf protectOf immedOf eraseOf row rows orderBody orderBytes orderBlock trackOf tracksOf kindsOk fieldsOf headOk orderOk readOrder hasTime timeFrames timeOf page sheetFault overlong cueEntry leadInEntry pauseEntry startEntry leadOutEntry trackEntries sheetOf cueSheet
 starred-sheets =
     record {
       block = refl;

@@ -287,7 +287,7 @@ pub record EraseSheets : Type 0 where
   pub unflagged :
       take 1 (givenIn (order Tao (300 ∷ [])) (twice (rw 0x11)))
       ∷ take 1 (givenIn (order Sao (300 ∷ [])) (twice (rw 0x12)))
-      ∷ take 1 (givenIn (orderOf Sao true (audio (449850 ∷ 299 ∷ []))) (twice (saying 0x13 0 0x0B 0 0)))
+      ∷ take 1 (givenIn (orderOf Sao true (audio (404850 ∷ 299 ∷ []))) (twice (saying 0x13 0 0x0B 0 0)))
       ∷ []
       ≡ replicate 3 (0x52 ∷ [])
   -- 16: a CD-R, and a CD-RW whose bit 4 is clear, whatever the bits beside it
@@ -307,9 +307,9 @@ pub record EraseSheets : Type 0 where
       ∷ refusedIn (flagged (orderOf Sao true (audio (299 ∷ [])))) (twice (cd-r 0x13))
       ∷ refusedIn (flagged (orderOf Sao true (audio (299 ∷ [])))) (twice (cd-r 0x12))
       ∷ refusedIn (flagged (orderOf Sao false (track Audio 300 ∷ track Data 299 ∷ []))) (twice (rw 0x10))
-      ∷ wiping Tao (449850 ∷ 299 ∷ []) (twice (cd-r 0x12))
-      ∷ wiping Tao (449850 ∷ []) (twice (cd-r 0x12))
-      ∷ wiping Sao (449849 ∷ []) (twice (cd-r 0x12))
+      ∷ wiping Tao (404850 ∷ 299 ∷ []) (twice (cd-r 0x12))
+      ∷ wiping Tao (404850 ∷ []) (twice (cd-r 0x12))
+      ∷ wiping Sao (404849 ∷ []) (twice (cd-r 0x12))
       ∷ []
       ≡ 4 ∷ 5 ∷ 6 ∷ 8 ∷ 8 ∷ 9 ∷ 10 ∷ 16 ∷ []
   -- 5, 6, 9 and 10 on a blank disc
@@ -317,16 +317,16 @@ pub record EraseSheets : Type 0 where
       wiping Tao (300 ∷ []) (twice (saying 0x10 0 0x0B 0 300))
       ∷ wiping Tao (300 ∷ []) (twice (rw 0x13))
       ∷ wiping Tao (299 ∷ []) (twice (rw 0x10))
-      ∷ wiping Tao (449850 ∷ []) (twice (rw 0x00))
+      ∷ wiping Tao (404850 ∷ []) (twice (rw 0x00))
       ∷ []
       ≡ 5 ∷ 6 ∷ 9 ∷ 10 ∷ []
   -- S alone counts there, in TAO and SAO, and neither Free Blocks nor an address
   pub alone :
-      wiping Tao (449849 ∷ []) (twice (saying 0x12 0x20 0x0A 0xFFFFFFFF 0))
-      ∷ wiping Sao (449849 ∷ []) (twice (saying 0x12 0x20 0x0A 0xFFFFFFFF 0))
-      ∷ wiping Sao (449850 ∷ []) (twice (rw 0x12))
-      ∷ wiping Tao (300 ∷ 449549 ∷ []) (twice (rw 0x12))
-      ∷ wiping Tao (300 ∷ 449550 ∷ []) (twice (rw 0x12))
+      wiping Tao (404849 ∷ []) (twice (saying 0x12 0x20 0x0A 0xFFFFFFFF 0))
+      ∷ wiping Sao (404849 ∷ []) (twice (saying 0x12 0x20 0x0A 0xFFFFFFFF 0))
+      ∷ wiping Sao (404850 ∷ []) (twice (rw 0x12))
+      ∷ wiping Tao (300 ∷ 404549 ∷ []) (twice (rw 0x12))
+      ∷ wiping Tao (300 ∷ 404550 ∷ []) (twice (rw 0x12))
       ∷ []
       ≡ 0 ∷ 0 ∷ 10 ∷ 0 ∷ 10 ∷ []
   -- the second 51h: 4, and 6 for all but blank, in TAO too; "Erasable isn't judged again"
@@ -337,8 +337,8 @@ pub record EraseSheets : Type 0 where
       ∷ renewed Tao (saying 0x10 0x20 9 0 299)
       ∷ renewed Tao (rw 0x10)
       ∷ renewed Tao (plain 0x10 0 299)
-      ∷ renewed Tao (plain 0x10 449550 300)
-      ∷ renewed Tao (plain 0x10 449549 300)
+      ∷ renewed Tao (plain 0x10 404550 300)
+      ∷ renewed Tao (plain 0x10 404549 300)
       ∷ renewed Sao (saying 0x10 0x20 9 0 300)
       ∷ renewed Sao (plain 0x10 0 299)
       ∷ renewed Sao (rw 0x10)
@@ -399,16 +399,16 @@ pub record StarredSheets : Type 0 where
   pub short-or-long : opened (order Tao (299 ∷ [])) (plain 0 0 299) ∷ opened (order Tao (300 ∷ [])) (plain 0 0 300) ∷ [] ≡ 9 ∷ 0 ∷ []
   -- "S equal to Free Blocks passes; one more: 10."
   pub room : opened (order Tao (300 ∷ 450 ∷ [])) (plain 1 0 750) ∷ opened (order Tao (300 ∷ 450 ∷ [])) (plain 1 0 749) ∷ [] ≡ 0 ∷ 10 ∷ []
-  -- "SAO with S 449,849 and room passes; 449,850: 10.": at the sheet maker, and in a job
+  -- "SAO with S 449,849 and room passes; 449,850: 10.", which document 02 moves to 404,849 and 404,850: at the sheet maker, and in a job
   pub lead-outs : Layouts.LeadOuts
-  pub last-lead-out : opened (order Sao (449849 ∷ [])) (plain 0 0 449850) ∷ opened (order Sao (449850 ∷ [])) (plain 0 0 449850) ∷ [] ≡ 0 ∷ 10 ∷ []
+  pub last-lead-out : opened (order Sao (404849 ∷ [])) (plain 0 0 404850) ∷ opened (order Sao (404850 ∷ [])) (plain 0 0 404850) ∷ [] ≡ 0 ∷ 10 ∷ []
   -- "Second TAO address equal to the previous end passes; one less: 7."
   pub second-address : after 25 (order Tao (300 ∷ 317 ∷ [])) (plain 0 7 617) (plain 0 307 617) ∷ after 25 (order Tao (300 ∷ 317 ∷ [])) (plain 0 7 617) (plain 0 306 617) ∷ [] ≡ 0 ∷ 7 ∷ []
   -- "Audio 300 and 450"
   pub entries : Layouts.Entries
   -- "TAO data, keep, protected: page starts 05 32 41 C4 08."
   pub page-start : Layouts.PageStart
-  -- "-150 is 00:00:00, 0 is 00:02:00, 449,849 is 99:59:74; -151 is refused, 15."
+  -- "-150 is 00:00:00, 0 is 00:02:00", and by document 02 "404,849, whose time is 89:59:74", "-151 becomes 99:59:74 and -45,151 is refused, 15"
   pub times : Layouts.Times
   -- "First SAO WRITE: 2A 00 FF FF FF 6A 00 00 10 00.": its maker, and in a job
   pub first-write : Layouts.FirstWrite

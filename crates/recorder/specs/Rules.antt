@@ -93,11 +93,11 @@ still o t = blocksOf (drop (t - 1) (tracksIn o))
 abbrev pub leadOut : Method → ℕ → TrackInformation → ℕ
 leadOut m s i = if (stepwise m) (framesTo (i .address) .0 + s) (s + leadFrames)
 
--- the frames to 449,849
+-- the frames to the last address
 abbrev pub lastFrame : ℕ
 lastFrame = lastAddress + leadFrames
 
--- 10: "Fits means: the sum S .. is at most Free Blocks, and the lead-out address is at most 449,849"
+-- 10: "Fits means: the sum S .. is at most Free Blocks, and the lead-out address is at most" the last address
 unfoldable pub fits : Method → ℕ → TrackInformation → Bool
 fits m s i = leb s (i .free .0) && leb (leadOut m s i) lastFrame
 

@@ -11,12 +11,15 @@ use lib.Seq.{length-take-le, take-at}
 use Rattle.basics.specs.Bytes.{sameBytes}
 use Rattle.basics.proofs.Tests.{false-true, both, known}
 use Rattle.basics.proofs.Bytes.{same-is, same-refl}
-use Rattle.mmc.specs.Order.{noTrack, isNone, isAudio, allNone, validOrder, sameKind, tracksIn, orderKind, mixedOrKept, overlong, allKind, allLong, leastBlocks}
-use Rattle.mmc.specs.Times.{framesTo, timeFrames}
-use Rattle.mmc.specs.Sheet.{sheetFault, controlOf, cueEntry, leadInEntry, pauseEntry, startEntry, leadOutEntry, trackEntries, allEntries, sheetOf, sheetBytes, framesIn, kindIn, lengthIn, lengthsIn, noLength, tracksBeside, sheetIn, sheetSize, trackFor, orderFor, isSheet, readSheet, cueSheet, lengthOf, sheetFor, timesIn, Below, Rising, Ordered}
+use Rattle.mmc.specs.Order.{noTrack, isNone, isAudio, allNone, validOrder, sameKind, tracksIn, orderKind, mixedOrKept, overlong, allKind, allLong, blocksOf, leastBlocks}
+use Rattle.mmc.specs.Times.{firstAddress, lastAddress, leadInMinute, isTime, framesTo, addressAt, timeFrames, addressAtTime, addressOf}
+use Rattle.mmc.specs.Sheet.{sheetFault, controlOf, cueEntry, leadInEntry, pauseEntry, startEntry, leadOutEntry, trackEntries, allEntries, sheetOf, sheetBytes, framesIn, kindIn, lengthIn, lengthsIn, noLength, tracksBeside, sheetIn, sheetSize, trackFor, orderFor, isSheet, readSheet, cueSheet, lengthOf, sheetFor, timesIn, Below, Rising, Ordered, entryTime, addressesIn, startsFrom}
 use Rattle.mmc.proofs.refusals.Laws.{without-fault}
-use Rattle.mmc.proofs.sheet.Entries.{address, number, entries-length, Sheeted, sheeted}
-use Rattle.mmc.specs.Refusals.{pass, refuse}
+use Rattle.mmc.proofs.sheet.Entries.{address, number, has-time, entries-length, Sheeted, sheeted}
+use Rattle.mmc.proofs.times.Signed.{range-time}
+use Rattle.mmc.proofs.times.Laws.{stands}
+use Rattle.mmc.specs.Refusals.{Outcome, pass, refuse}
+use Rattle.mmc.specs.declared.units.BlockAddress.{BlockAddress}
 use Rattle.mmc.specs.declared.units.BlockCount.{BlockCount}
 use Rattle.mmc.specs.declared.order.Order.{Order}
 use Rattle.mmc.specs.declared.order.Track.{Track}
@@ -252,3 +255,67 @@ in-order o z b e =
     subst (λ (x : List ℕ). Rising (timesIn (o .count + 1) x)) (sym (behind-pause o z (w .0)))
     (subst (λ (m : ℕ). Rising (timesIn (m + 1) (allEntries o))) n r) in
     subst (Ordered (o .count)) (w .1) (record { shared = shares o; rising = at })
+
+-- ---- what the times stand for
+
+-- the first entry's time, where the first track starts at an address
+stands-at : (k : Kind) (n at : ℕ) (ts : List Track) → at ≤ lastAddress → addressOf (entryTime (trackEntries k (number n) (address at) ts)) ≡ pass (address at)
+unfolding trackEntries cueEntry startEntry leadOutEntry
+stands-at k n at [] h = stands (address at) (range-time (address at) (has-time at h))
+stands-at k n at (t ∷ ts) h = stands (address at) (range-time (address at) (has-time at h))
+
+stand-from : (k : Kind) (n at : ℕ) (ts : List Track) → at + blocksOf ts ≤ lastAddress → addressesIn (length ts + 1) (trackEntries k (number n) (address at) ts) ≡ startsFrom (address at) ts
+unfolding addressesIn startsFrom blocksOf
+stand-from k n at [] h = ap (λ (x : Outcome BlockAddress). x ∷ []) (stands-at k n at [] (omega arith))
+stand-from k n at (t ∷ ts) h =
+    let e : length (t ∷ ts) + 1 ≡ suc (length ts + 1) = omega arith in
+    rw (e, stands-at k n at (t ∷ ts) (omega arith), rest k n at t ts, stand-from k (n + 1) (at + t .length .0) ts (omega arith))
+
+-- pause, tracks and lead-out stand where they were ordered
+pub addresses :
+    (o : Order) → length (o .tracks) ≡ 99 → (b : List ℕ) → cueSheet o ≡ pass b →
+    addressesIn (o .count + 3) b ≡ pass (record { 0 = firstAddress }) ∷ pass (record { 0 = firstAddress }) ∷ startsFrom (address 0) (tracksIn o)
+unfolding addressesIn sheetOf leadInEntry pauseEntry cueEntry timeFrames framesTo addressOf isTime addressAtTime addressAt
+addresses o z b e =
+    let w = made-of o b e in
+    let n : length (tracksIn o) ≡ o .count = tracks-are o z (w .0) in
+    let c : o .count + 3 ≡ suc (suc (length (tracksIn o) + 1)) = omega arith in
+    let r = stand-from (orderKind o) 1 0 (tracksIn o) (omega (arith, sheeted o (w .0) .ends)) in
+    rw (← w .1, c) (ap (λ (l : List (Outcome BlockAddress)). pass (record { 0 = firstAddress }) ∷ pass (record { 0 = firstAddress }) ∷ l) r)
+
+-- ---- no time is of minute 90 or more
+
+-- the fifth byte of a later entry
+later : (a b c d e f g h : ℕ) (l : List ℕ) (i : ℕ) → getD (a ∷ b ∷ c ∷ d ∷ e ∷ f ∷ g ∷ h ∷ l) (8 * suc i + 5) 0 ≡ getD l (8 * i + 5) 0
+later a b c d e f g h l i = let j : 8 * suc i + 5 ≡ suc (suc (suc (suc (suc (suc (suc (suc (8 * i + 5)))))))) = omega arith in rw j refl
+
+minute : (at : ℕ) → at ≤ lastAddress → (at + 150) / 75 / 60 < leadInMinute
+minute at h = omega arith
+
+early-from : (k : Kind) (n at : ℕ) (ts : List Track) (i : ℕ) → at + blocksOf ts ≤ lastAddress → getD (trackEntries k (number n) (address at) ts) (8 * i + 5) 0 < leadInMinute
+unfolding trackEntries cueEntry startEntry leadOutEntry blocksOf timeFrames framesTo
+early-from k n at [] zero h = minute at (omega arith)
+early-from k n at [] (suc i) h = rw (later _ _ _ _ _ _ _ _ [] i) (omega arith)
+early-from k n at (t ∷ ts) zero h = minute at (omega arith)
+early-from k n at (t ∷ ts) (suc i) h = rw (later _ _ _ _ _ _ _ _ (trackEntries k (number (n + 1)) (address (at + t .length .0)) ts) i) (early-from k (n + 1) (at + t .length .0) ts i (omega arith))
+
+early : (o : Order) → sheetFault o ≡ 0 → (i : ℕ) → getD (sheetOf o) (8 * i + 5) 0 < leadInMinute
+unfolding sheetOf leadInEntry pauseEntry cueEntry timeFrames framesTo
+early o f zero = omega arith
+early o f (suc zero) = omega arith
+early o f (suc (suc i)) =
+    let e : getD (sheetOf o) (8 * suc (suc i) + 5) 0 ≡ getD (allEntries o) (8 * i + 5) 0 =
+    later _ _ _ _ _ _ _ _ (pauseEntry (orderKind o) ++ allEntries o) (suc i) ∙ later _ _ _ _ _ _ _ _ (allEntries o) i in
+    rw e (early-from (orderKind o) 1 0 (tracksIn o) i (omega (arith, sheeted o f .ends)))
+
+pub late : (b : List ℕ) (i : ℕ) → leadInMinute ≤ getD b (8 * i + 5) 0 → readSheet b ≡ refuse 14
+unfolding readSheet isSheet
+late b i h = known (isSheet b) yes' (λ t. simp t)
+  where
+    yes' : isSheet b ≡ true → readSheet b ≡ refuse 14
+    yes' t =
+        let o : Order = orderFor (sheetIn b) in
+        let w = both (sheetSize (length b)) (eqb (sheetFault o) 0 && sameBytes (sheetOf o) b) t in
+        let v = both (eqb (sheetFault o) 0) (sameBytes (sheetOf o) b) (w .1) in
+        let l : getD b (8 * i + 5) 0 < leadInMinute = subst (λ (x : List ℕ). getD x (8 * i + 5) 0 < leadInMinute) (same-is (sheetOf o) b (v .1)) (early o (eqb-true _ _ (v .0)) i) in
+        absurd (omega (arith, h, l))

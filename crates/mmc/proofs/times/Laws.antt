@@ -49,7 +49,7 @@ clock-back t h =
     same : (t u : Time) → t .minute ≡ u .minute → t .second ≡ u .second → t .minute + t .second + t .frame ≡ u .minute + u .second + u .frame → t ≡ u
     same t u m s a = let f : t .frame ≡ u .frame = omega (arith, m, s, a) in rw (m, s, f)
 
-pub frames-small : (t : Time) → isTime t ≡ true → framesOf t .0 < 450000
+frames-small : (t : Time) → isTime t ≡ true → framesOf t .0 < 450000
 frames-small t h = omega (arith, time-parts t h)
 
 -- in the program area, an address as a count of frames, and back
@@ -80,9 +80,9 @@ time-back a h =
     known (leZ firstAddress (a .0))
     (λ l. let r = time-range a h l in rw (in-program a l) (simp (early (framesTo a) (frames a r .1), count-back, address-back a r)))
     (λ l.
-      let w = in-lead-in a h l in
-      let e : leadInAt (timeFrames a) ≡ a = ap (λ (x : ℤ). record { 0 = x }) (ap (λ (x : ℤ). x -ℤ pos leadInFrames) (sym (w .0)) ∙ +ℤ-negℤ-cancel (a .0) (pos leadInFrames)) in
-      simp (late (timeFrames a) (w .1)) (ap leadInAt (count-back (timeFrames a)) ∙ e))
+    let w = in-lead-in a h l in
+    let e : leadInAt (timeFrames a) ≡ a = ap (λ (x : ℤ). record { 0 = x }) (ap (λ (x : ℤ). x -ℤ pos leadInFrames) (sym (w .0)) ∙ +ℤ-negℤ-cancel (a .0) (pos leadInFrames)) in
+    simp (late (timeFrames a) (w .1)) (ap leadInAt (count-back (timeFrames a)) ∙ e))
 
 -- the address at a count of frames has a time, which is as many frames: before minute 90, and from there on
 abbrev Found : BlockAddress → FrameCount → Type 0
@@ -116,13 +116,17 @@ found t h =
     (λ e. let l = leb-true leadInMinute (t .minute) e in simp e (in-minutes-90 (framesOf t) (omega (arith, l)) (frames-small t h)))
     (λ e. let l = leb-false leadInMinute (t .minute) e in simp e (in-minutes-0 (framesOf t) (omega (arith, l, w))))
 
--- an address in range has a time, whose address it is
-pub there : (a : BlockAddress) → hasTime a ≡ true → (t : Time) × (timeOf a ≡ pass t) × (addressOf t ≡ pass a)
-unfolding timeOf addressOf
-there a h = (timeAt a, simp h, simp (clock-is-time (timeFrames a) (few-frames a h), time-back a h))
+-- an address that has a time is that time's
+pub stands : (a : BlockAddress) → hasTime a ≡ true → addressOf (timeAt a) ≡ pass a
+unfolding addressOf
+stands a h = simp (clock-is-time (timeFrames a) (few-frames a h), time-back a h)
+
+there : (a : BlockAddress) → hasTime a ≡ true → (t : Time) × (timeOf a ≡ pass t) × (addressOf t ≡ pass a)
+unfolding timeOf
+there a h = (timeAt a, simp h, stands a h)
 
 -- a time has an address, whose time it is
-pub back : (t : Time) → isTime t ≡ true → (a : BlockAddress) × (addressOf t ≡ pass a) × (timeOf a ≡ pass t)
+back : (t : Time) → isTime t ≡ true → (a : BlockAddress) × (addressOf t ≡ pass a) × (timeOf a ≡ pass t)
 unfolding timeOf addressOf
 back t h = let w = found t h in (addressAtTime t, simp h, simp (w .0, w .1, clock-back t h))
 

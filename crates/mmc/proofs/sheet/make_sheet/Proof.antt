@@ -4,7 +4,7 @@ use Rattle.mmc.specs.Refusals.{faultIn, numberOf}
 use Rattle.mmc.specs.Sheet.{cueSheet, sheetFault}
 use Rattle.mmc.proofs.refusals.Laws.{numbered, fills-of, fills-not}
 use Rattle.basics.proofs.Lists.{mapped-length}
-use Rattle.mmc.proofs.sheet.Laws.{made-length, reads-back, in-order}
+use Rattle.mmc.proofs.sheet.Laws.{made-length, reads-back, in-order, addresses}
 use borrow.Author.Needs.{needs}
 use Rattle.mmc.proofs.sheet.make_sheet.Statement.{statement}
 use Rattle.mmc.proofs.sheet.make_sheet.Tie as tie
@@ -35,7 +35,7 @@ returns c =
     let st = k .before .before in
     let o = st .args .o in
     let e : sheetFault o ≡ numberOf (g .0 .0) = sym (k .check-sheet .ensures) ∙ ap faultIn (g .1) in
-    record { filled = fills-not (g .0 .0) (st .args .out .now) (simp (e, numbered (g .0 .0))); size = made-length o (sized st); reads-back = reads-back o (sized st); ordered = in-order o (sized st) }
+    record { filled = fills-not (g .0 .0) (st .args .out .now) (simp (e, numbered (g .0 .0))); size = made-length o (sized st); reads-back = reads-back o (sized st); ordered = in-order o (sized st); addresses = addresses o (sized st) }
 
 same-length : tie.Need-same-length
 same-length c = search needs
@@ -48,7 +48,7 @@ returns-2 c =
     let k = t .before .before .before in
     let st = k .before .before in
     let o = st .args .o in
-    record { filled = fills-of (simp (faultless t)) (f .fill-sheet .ensures); size = made-length o (sized st); reads-back = reads-back o (sized st); ordered = in-order o (sized st) }
+    record { filled = fills-of (simp (faultless t)) (f .fill-sheet .ensures); size = made-length o (sized st); reads-back = reads-back o (sized st); ordered = in-order o (sized st); addresses = addresses o (sized st) }
 
 pub make-sheet-spec : {M : Type 1} → statement M
 make-sheet-spec =

@@ -6,7 +6,7 @@ use Rattle.mmc.specs.Refusals.{refuse, pass, valueOr, checked}
 use Rattle.mmc.specs.Sheet.{readSheet, isSheet, sheetSize, sheetIn, orderFor, noSheet}
 use Rattle.mmc.specs.declared.refusals.Check.{Check}
 use Rattle.mmc.proofs.sheet.Reading.{in-few}
-use Rattle.mmc.proofs.sheet.Laws.{made}
+use Rattle.mmc.proofs.sheet.Laws.{made, late}
 use borrow.Author.Needs.{needs}
 use Rattle.mmc.proofs.sheet.read_sheet.Statement.{statement}
 use Rattle.mmc.proofs.sheet.read_sheet.Tie as tie
@@ -27,7 +27,7 @@ returns c =
     let b = k .before .before .args .b .now in
     let f : sheetSize (length b) ≡ false = sym (k .sheet-size .ensures) ∙ not-true (k .sheet-size .result) (c .before .if1 .taken) in
     let e : readSheet b ≡ refuse 14 = simp f in
-    record { answer = ap (λ (x : Check). checked x (c .no-sheet .result .sheet)) (c .no-sheet .ensures .0) ∙ sym e; sheet = c .no-sheet .ensures .1 ∙ sym (ap (valueOr noSheet) e); made = made b }
+    record { answer = ap (λ (x : Check). checked x (c .no-sheet .result .sheet)) (c .no-sheet .ensures .0) ∙ sym e; sheet = c .no-sheet .ensures .1 ∙ sym (ap (valueOr noSheet) e); made = made b; late = late b }
 
 sheet-in-requires : tie.Need-sheet-in-requires
 sheet-in-requires c κs = shaped-is c
@@ -48,7 +48,7 @@ returns-2 c =
     let b = s .before .before .before .before .before .before .args .b .now in
     let f : isSheet b ≡ false = sym (s .is-sheet .ensures) ∙ not-true (s .is-sheet .result) (c .before .if2 .taken) in
     let e : readSheet b ≡ refuse 14 = simp f in
-    record { answer = ap (λ (x : Check). checked x (c .no-sheet2 .result .sheet)) (c .no-sheet2 .ensures .0) ∙ sym e; sheet = c .no-sheet2 .ensures .1 ∙ sym (ap (valueOr noSheet) e); made = made b }
+    record { answer = ap (λ (x : Check). checked x (c .no-sheet2 .result .sheet)) (c .no-sheet2 .ensures .0) ∙ sym e; sheet = c .no-sheet2 .ensures .1 ∙ sym (ap (valueOr noSheet) e); made = made b; late = late b }
 
 returns-3 : tie.Need-returns-3
 unfolding readSheet
@@ -58,7 +58,7 @@ returns-3 c =
     let b = n .before .before .before .before .args .b .now in
     let t : isSheet b ≡ true = sym (s .is-sheet .ensures) ∙ not-false (s .is-sheet .result) (c .if2 .left) in
     let e : readSheet b ≡ pass (sheetIn b) = simp t in
-    record { answer = ap pass (n .sheet-in .ensures) ∙ sym e; sheet = n .sheet-in .ensures ∙ sym (ap (valueOr noSheet) e); made = made b }
+    record { answer = ap pass (n .sheet-in .ensures) ∙ sym e; sheet = n .sheet-in .ensures ∙ sym (ap (valueOr noSheet) e); made = made b; late = late b }
 
 pub read-sheet-spec : {M : Type 1} → statement M
 read-sheet-spec =
