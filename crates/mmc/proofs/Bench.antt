@@ -25,10 +25,12 @@ layout-sheets =
     }
 
 pub layout-cases : LayoutCases
-unfolding bytes32 be32 sumOf allZero checkSum sealed blockFault blockRead allNone validOrder methodOf keepOf protectOf immedOf eraseOf trackOf tracksOf kindsOk fieldsOf headOk orderOk readOrder closeTrackSession allKind allLong blocksOf mixedOrKept overlong sheetFault pageFault
+unfolding bytes32 be32 sumOf allZero checkSum sealed blockFault blockRead allNone validOrder methodOf keepOf protectOf immedOf eraseOf trackOf tracksOf kindsOk fieldsOf headOk orderOk readOrder closeTrackSession allKind allLong blocksOf mixedOrKept overlong sheetFault pageFault inRange hasTime framesTo timeFrames timeOf writeRange writeCommand
 layout-cases =
     record {
       mixed-or-kept = refl;
+      time-ends = refl;
+      write-ends = refl;
       immed = refl;
       erase = refl;
       flags = refl;

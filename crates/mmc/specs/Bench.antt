@@ -60,6 +60,10 @@ address z = record { 0 = z }
 abbrev pub time : ℕ → ℕ → ℕ → Time
 time m s f = record { minute = m; second = s; frame = f }
 
+-- a WRITE of one block
+abbrev pub writeOne : BlockAddress → Outcome (List ℕ)
+writeOne a = writeCommand a (record { 0 = 1 })
+
 -- ---- the sheets marked *
 
 -- what is read of the block that is written of an order
@@ -126,6 +130,9 @@ pub record LayoutCases : Type 0 where
       map sheetFault (mixed Sao false ∷ alike Sao true ∷ alike Sao false ∷ alike Tao false ∷ [])
       ++ map pageFault (mixed Sao false ∷ alike Sao true ∷ alike Sao false ∷ alike Tao true ∷ [])
       ≡ (8 ∷ 8 ∷ 0 ∷ 3 ∷ []) ++ (0 ∷ 8 ∷ 0 ∷ 0 ∷ [])
+  -- document 02: times "run from -45,150 to 404,849", 90:00:00 to 89:59:74; "A WRITE still starts no lower than -150", and no higher
+  pub time-ends : map timeOf (address (negsuc 45149) ∷ address (pos 404850) ∷ []) ≡ pass (time 90 0 0) ∷ refuse 15 ∷ []
+  pub write-ends : map writeOne (address (negsuc 150) ∷ address (pos 404850) ∷ []) ≡ refuse 15 ∷ refuse 15 ∷ []
   -- document 02: flag bit 2 is Immed, bit 3 erase; flags 15 pass, 16: 3
   pub immed : readOrder (flagsBlock 4) ≡ pass (flagsOrder false false true false)
   pub erase : readOrder (flagsBlock 8) ≡ pass (flagsOrder false false false true)
