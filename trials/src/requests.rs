@@ -338,7 +338,7 @@ fn change_sheet(rng: &mut Rng, bytes: &mut Vec<u8>) {
     }
     let place = rng.below(length as u64) as usize;
     let entry = 8 * rng.below(length as u64 / 8) as usize;
-    match rng.below(12) {
+    match rng.below(13) {
         0..=1 => bytes[place] = rng.byte(),
         2 => bytes[place] ^= 1 << rng.below(8),
         3..=4 => bytes[entry + 7] = bytes[entry + 7].wrapping_add(1),
@@ -354,8 +354,13 @@ fn change_sheet(rng: &mut Rng, bytes: &mut Vec<u8>) {
             let repeated = bytes[entry..entry + 8].to_vec();
             bytes.splice(entry..entry, repeated);
         }
-        _ => {
+        11 => {
             bytes.drain(entry..entry + 8);
+        }
+        _ => {
+            // All entries, or index 1 and lead-out, moved into the lead-in.
+            let entries = bytes[rng.pick(&[0, 16])..].chunks_exact_mut(8);
+            entries.for_each(|entry| entry[5] = entry[5].wrapping_add(90));
         }
     }
 }
