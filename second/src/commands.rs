@@ -1,7 +1,7 @@
 //! The bytes of the eleven commands.
 
 use crate::refusal::{require, Refusal};
-use crate::units::{Address, BlockCount, TrackNumber, FIRST_ADDRESS, LAST_ADDRESS};
+use crate::units::{Address, BlockCount, TrackNumber, WRITABLE};
 use std::ops::Deref;
 
 /// A command's bytes: ten, or six for 00h and 03h, or twelve for A1h.
@@ -88,10 +88,9 @@ pub fn send_cue_sheet(length: u64) -> Result<Bytes, Refusal> {
     Ok(Bytes::Ten(with_length(SEND_CUE_SHEET, length as u16)))
 }
 
-/// The address is -150 to 449,849 and the count 1 to 16, else 15.
+/// The address is -150 to 404,849 and the count 1 to 16, else 15.
 pub fn write(address: Address, count: BlockCount) -> Result<Bytes, Refusal> {
-    let valid =
-        (FIRST_ADDRESS..=LAST_ADDRESS).contains(&address.0) && (1..=MOST_BLOCKS).contains(&count.0);
+    let valid = WRITABLE.contains(&address.0) && (1..=MOST_BLOCKS).contains(&count.0);
     require(valid, Refusal::Range)?;
     let mut bytes = with_length(WRITE, count.0 as u16);
     bytes[2..6].copy_from_slice(&(address.0 as i32).to_be_bytes());
@@ -160,6 +159,7 @@ pub fn has_immed(bytes: &[u8]) -> bool {
 mod tests {
     use super::*;
     use crate::hex::plain;
+    use crate::times::time_of;
 
     #[test]
     fn fixed_commands() {
@@ -191,12 +191,25 @@ mod tests {
     #[test]
     fn write_ranges() {
         let passes = |address, count| write(Address(address), BlockCount(count)).is_ok();
-        assert!(passes(449_849, 16) && passes(0, 1));
-        for (address, count) in [(-151, 1), (449_850, 1), (0, 0), (0, 17), (i64::MIN, 1)] {
+        assert!(passes(404_849, 16) && passes(0, 1) && passes(-150, 1));
+        for (address, count) in [(-151, 1), (404_850, 1), (0, 0), (0, 17), (i64::MIN, 1)] {
             assert!(!passes(address, count));
         }
-        let bytes = write(Address(449_849), BlockCount(1)).unwrap();
-        assert_eq!(plain(&bytes), "2A 00 00 06 DD 39 00 00 01 00");
+        for address in [-45_151, -45_150, -45_149, -152, 449_849, 449_850] {
+            assert!(!passes(address, 1));
+        }
+        let bytes = write(Address(404_849), BlockCount(1)).unwrap();
+        assert_eq!(plain(&bytes), "2A 00 00 06 2D 71 00 00 01 00");
+    }
+
+    /// The lead-in's addresses have a time, but no WRITE starts there.
+    #[test]
+    fn no_write_in_the_lead_in() {
+        for address in [-45_150, -151] {
+            assert!(time_of(Address(address)).is_ok());
+            let refused = write(Address(address), BlockCount(16));
+            assert_eq!(refused, Err(Refusal::Range));
+        }
     }
 
     #[test]

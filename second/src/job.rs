@@ -15,9 +15,7 @@ use crate::commands::{self, Bytes, CLOSE_SESSION, CLOSE_TRACK, MOST_BLOCKS};
 use crate::refusal::{require, Refusal};
 use crate::replies::{self, Disc, DiscInformation, Failure, TrackInformation};
 use crate::sheet::{ENTRY, MORE_ENTRIES};
-use crate::units::{
-    check_lead_out, Address, BlockCount, Method, Order, TrackNumber, FIRST_ADDRESS,
-};
+use crate::units::{check_lead_out, Address, BlockCount, Method, Order, TrackNumber, PAUSE_START};
 
 /// The pause ahead of track 1 in SAO.
 const PAUSE: u64 = 150;
@@ -127,7 +125,7 @@ impl Job {
                 status: Disc::Other,
                 erasable: false,
             },
-            address: Address(FIRST_ADDRESS),
+            address: Address(PAUSE_START),
             ready: false,
             progress: 0,
             count: 0,
@@ -374,7 +372,7 @@ fn check_usable(
     Ok(())
 }
 
-/// Number 10: S is at most Free Blocks, and the lead-out at most 449,849. In
+/// Number 10: S is at most Free Blocks, and the lead-out at most 404,849. In
 /// TAO the lead-out stands at the Next Writable Address plus S, in SAO at S.
 fn check_fit(order: &Order, index: usize, info: TrackInformation) -> Result<(), Refusal> {
     let blocks = order.blocks_from(index);
@@ -390,7 +388,7 @@ fn check_fit(order: &Order, index: usize, info: TrackInformation) -> Result<(), 
 fn start(method: Method, info: TrackInformation) -> Address {
     match method {
         Method::Tao => info.next_writable,
-        Method::Sao => Address(FIRST_ADDRESS),
+        Method::Sao => Address(PAUSE_START),
     }
 }
 
@@ -573,17 +571,41 @@ mod tests {
         }
     }
 
-    /// Bench sheet: SAO with S 449,849 and room passes; 449,850: 10.
+    /// Bench sheet, as document 02, Ask 3, moves it: SAO with S 404,849 and
+    /// room passes; 404,850: 10.
     #[test]
     fn bench_lead_out_limit() {
-        let room = track(0, u32::MAX);
-        let full = stop("sao data 449849", 0, room.clone());
-        assert_eq!(full, (Answer::Done, 16 + 28_116));
-        assert_eq!(stop("sao data 449850", 0, room), (refused(Refusal::Fit), 3));
-        let late = stop("tao data 300", 0, track(449_549, u32::MAX));
+        let room = || track(0, u32::MAX);
+        let full = stop("sao data 404849", 0, room());
+        assert_eq!(full, (Answer::Done, 16 + 25_304));
+        let full = stop("tao data 404849", 0, room());
+        assert_eq!(full, (Answer::Done, 4 + 3 + 25_304));
+        for over in ["404850", "404851", "449849", "449850"] {
+            for method in ["sao", "tao"] {
+                let answer = stop(&format!("{method} data {over}"), 0, room());
+                assert_eq!(answer, (refused(Refusal::Fit), 3));
+            }
+        }
+        let late = stop("tao data 300", 0, track(404_549, u32::MAX));
         assert_eq!(late, (Answer::Done, 26));
-        let later = stop("tao data 300", 0, track(449_550, u32::MAX));
-        assert_eq!(later, (refused(Refusal::Fit), 3));
+        for address in [404_550, 449_549] {
+            let later = stop("tao data 300", 0, track(address, u32::MAX));
+            assert_eq!(later, (refused(Refusal::Fit), 3));
+        }
+    }
+
+    /// The limit at a later 52h; the last WRITE stands short of it.
+    #[test]
+    fn lead_out_limit_at_a_later_52h() {
+        let line = "tao data 300 data 301";
+        let second = |address| run(line, 0, &[track(0, u32::MAX), track(address, u32::MAX)]);
+        let (job, answer, writes) = second(404_548);
+        assert_eq!((answer, job.count()), (Answer::Done, 4 * 2 + 3 + 19 + 19));
+        assert_eq!(writes[37].0, 404_548 + 288);
+        for address in [404_549, 449_548] {
+            let (job, answer, _) = second(address);
+            assert_eq!((answer, job.count()), (refused(Refusal::Fit), 26));
+        }
     }
 
     /// Bench sheet: second TAO address equal to the previous end passes; one
@@ -875,14 +897,21 @@ mod tests {
         assert_eq!(stop(worst, 8, 3, false), 5);
         assert_eq!(stop(worst, 9, 3, false), 6);
         assert_eq!(stop(worst, 9, 2, false), 8);
-        assert_eq!(stop("sao erase data 299 audio 449850", 9, 2, false), 8);
-        assert_eq!(stop("sao erase data 299 data 449850", 9, 2, false), 9);
-        assert_eq!(stop("tao erase data 299 data 449850", 9, 2, false), 9);
-        assert_eq!(stop("tao erase data 449850", 9, 2, false), 10);
-        assert_eq!(stop("tao erase data 449849", 9, 2, true), 16);
+        assert_eq!(stop("sao erase data 299 audio 404850", 9, 2, false), 8);
+        assert_eq!(stop("sao erase data 299 data 404850", 9, 2, false), 9);
+        assert_eq!(stop("tao erase data 299 data 404850", 9, 2, false), 9);
+        for over in ["404850", "449849"] {
+            for method in ["tao", "sao"] {
+                let line = format!("{method} erase data {over}");
+                assert_eq!(stop(&line, 9, 2, false), 10);
+                assert_eq!(stop(&line, 10, 2, true), 10);
+            }
+        }
+        assert_eq!(stop("tao erase data 404849", 9, 2, true), 16);
+        assert_eq!(stop("sao erase data 404849", 9, 2, true), 16);
         assert_eq!(stop("tao erase data 300", 10, 1, false), 16);
         assert_eq!(stop("tao erase data 299", 9, 0, false), 9);
-        assert_eq!(stop("tao erase data 449850", 9, 0, false), 10);
+        assert_eq!(stop("tao erase data 404850", 9, 0, false), 10);
     }
 
     /// At the second 51h 4 and 6; only blank passes, in TAO too.
@@ -910,7 +939,7 @@ mod tests {
     /// 5, 6, 8, 9 wait for the third reply.
     #[test]
     fn without_the_flag_nothing_is_erased() {
-        for line in ["tao data 300", "sao keep data 299", "tao immed data 449850"] {
+        for line in ["tao data 300", "sao keep data 299", "tao immed data 404850"] {
             for profile in [8, 9, 10] {
                 for disc in 0..4 {
                     let (job, _) = opened(line, profile, disc, true);

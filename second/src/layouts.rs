@@ -212,8 +212,15 @@ mod tests {
     #[test]
     fn times() {
         assert_eq!(answer("time -150"), "ok 0 0 0");
-        assert_eq!(answer("time 449849"), "ok 99 59 74");
-        assert_eq!(answer("time -151"), "refused 15");
+        assert_eq!(answer("time 404849"), "ok 89 59 74");
+        assert_eq!(answer("time 404850"), "refused 15");
+        assert_eq!(answer("time -151"), "ok 99 59 74");
+        assert_eq!(answer("time -45150"), "ok 90 0 0");
+        assert_eq!(answer("time -45151"), "refused 15");
+        assert_eq!(answer("address 89 59 74"), "ok 404849");
+        assert_eq!(answer("address 90 0 0"), "ok -45150");
+        assert_eq!(answer("address 99 59 74"), "ok -151");
+        assert_eq!(answer("address 100 0 0"), "refused 15");
         assert_eq!(answer("address 0 2 0"), "ok 0");
         assert_eq!(answer("address 0 60 0"), "refused 15");
     }
@@ -223,6 +230,7 @@ mod tests {
         let write = "ok 2A 00 FF FF FF 6A 00 00 10 00 A5";
         assert_eq!(answer("write 11 -150 16"), write);
         assert_eq!(answer("write 2 -150 17"), "refused 15 A5 A5");
+        assert_eq!(answer("write 2 -151 16"), "refused 15 A5 A5");
         assert_eq!(answer("write 2 -150 16"), "refused 11 A5 A5");
         assert_eq!(answer("mode-select 0"), "refused 11 -");
         assert_eq!(answer("send-cue-sheet 1 33"), "refused 15 A5");

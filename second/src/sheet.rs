@@ -162,23 +162,24 @@ mod tests {
         assert_eq!(made, expected.concat());
     }
 
-    /// Bench sheets: length 299: 9, 300 passes; S 449,849 passes, 449,850: 10.
+    /// Bench sheets: length 299: 9, 300 passes; S 404,849 passes, 404,850: 10.
     #[test]
     fn bench_limits() {
         let make = |lengths: &[u32]| sheet(&order(Kind::Data, lengths)).map(|_| ());
         assert_eq!(make(&[299]), Err(Refusal::ShortTrack));
         assert_eq!(make(&[300]), Ok(()));
-        assert_eq!(make(&[449_849]), Ok(()));
-        assert_eq!(make(&[449_850]), Err(Refusal::Fit));
-        assert_eq!(make(&[449_549, 300]), Ok(()));
-        assert_eq!(make(&[449_550, 300]), Err(Refusal::Fit));
+        assert_eq!(make(&[404_849]), Ok(()));
+        assert_eq!(make(&[404_850]), Err(Refusal::Fit));
+        assert_eq!(make(&[449_849]), Err(Refusal::Fit));
+        assert_eq!(make(&[404_549, 300]), Ok(()));
+        assert_eq!(make(&[404_550, 300]), Err(Refusal::Fit));
         assert_eq!(make(&[u32::MAX; 99]), Err(Refusal::Fit));
         assert_eq!(make(&[u32::MAX, 1 + 300]), Err(Refusal::Fit));
     }
 
     #[test]
     fn refusals_in_order_3_8_9_10() {
-        let mut order = order(Kind::Data, &[449_850, 299]);
+        let mut order = order(Kind::Data, &[404_850, 299]);
         order.method = Method::Tao;
         order.tracks[0].kind = Kind::Audio;
         assert_eq!(sheet(&order), Err(Refusal::Field));
@@ -230,6 +231,51 @@ mod tests {
             }
         }
         assert!(still_sheets > made.len());
+    }
+
+    /// The longest sheet ends at 89:59:74 and reads back.
+    #[test]
+    fn the_longest_sheet() {
+        for lengths in [&[404_849][..], &[404_549, 300], &[300, 404_549]] {
+            let made = sheet(&order(Kind::Data, lengths)).unwrap();
+            assert!(made.ends_with(&[0x41, 0xAA, 0x01, 0x14, 0x00, 89, 59, 74]));
+            assert_eq!(read_sheet(&made), Ok((Kind::Data, lengths.to_vec())));
+        }
+    }
+
+    /// Document 02, Ask 3: a time of minute 90 or more, in any entry, is 14.
+    #[test]
+    fn no_sheet_names_the_lead_in() {
+        for lengths in [&[300][..], &[300, 450], &[404_849], &[404_249, 300, 300]] {
+            let made = sheet(&order(Kind::Audio, lengths)).unwrap();
+            for entry in 0..made.len() / ENTRY {
+                for minute in 90..=255 {
+                    for (second, frame) in [(0, 0), (2, 0), (59, 74)] {
+                        let mut bytes = made.clone();
+                        let time = &mut bytes[ENTRY * entry + 5..ENTRY * (entry + 1)];
+                        time.copy_from_slice(&[minute, second, frame]);
+                        assert_eq!(read_sheet(&bytes), Err(Refusal::NoSheet));
+                    }
+                    // The entry's own second and frame, too.
+                    let mut bytes = made.clone();
+                    bytes[ENTRY * entry + 5] = minute;
+                    assert_eq!(read_sheet(&bytes), Err(Refusal::NoSheet));
+                }
+            }
+        }
+    }
+
+    /// Nor where all times are the lead-in's, and would give lengths.
+    #[test]
+    fn no_sheet_within_the_lead_in() {
+        let made = sheet(&order(Kind::Data, &[300, 450])).unwrap();
+        for first in [0, 2] {
+            let mut bytes = made.clone();
+            bytes[ENTRY * first..]
+                .chunks_exact_mut(ENTRY)
+                .for_each(|entry| entry[5] += 90);
+            assert_eq!(read_sheet(&bytes), Err(Refusal::NoSheet));
+        }
     }
 
     #[test]

@@ -1,11 +1,16 @@
 //! Units that are kept apart, and the order of tracks.
 
 use crate::refusal::{require, Refusal};
+use std::ops::RangeInclusive;
 
-/// First address that a disc of ours knows: the start of the pause.
-pub const FIRST_ADDRESS: i64 = -150;
-/// Last address with a time, and the limit of the lead-out.
-pub const LAST_ADDRESS: i64 = 449_849;
+/// The start of the pause, at time 00:00:00.
+pub const PAUSE_START: i64 = -150;
+/// Last address with a time and of a WRITE, and the limit of the lead-out.
+pub const LAST_ADDRESS: i64 = 404_849;
+/// The addresses that have a time, those of the lead-in too (document 02, Ask 3).
+pub const TIMED: RangeInclusive<i64> = -45_150..=LAST_ADDRESS;
+/// The addresses at which a WRITE may start.
+pub const WRITABLE: RangeInclusive<i64> = PAUSE_START..=LAST_ADDRESS;
 /// A track has at least this many blocks (document 000).
 pub const SHORTEST_TRACK: u32 = 300;
 /// An order holds at most this many tracks.

@@ -180,10 +180,13 @@ fn bad_orders_wipe_nothing() {
         ("sao keep erase data 300", "stop 8 2"),
         ("sao erase data 300 audio 300", "stop 8 2"),
         ("tao erase data 299", "stop 9 2"),
-        ("tao erase data 449850", "stop 10 2"),
-        ("sao erase data 449850", "stop 10 2"),
-        ("tao erase data 300 data 449550", "stop 10 2"),
-        ("tao keep erase data 300 audio 449549", "waiting 3"),
+        ("tao erase data 404850", "stop 10 2"),
+        ("sao erase data 404850", "stop 10 2"),
+        ("tao erase data 449849", "stop 10 2"),
+        ("sao erase data 449849", "stop 10 2"),
+        ("tao erase data 300 data 404550", "stop 10 2"),
+        ("tao keep erase data 300 audio 404549", "waiting 3"),
+        ("sao erase data 404849", "waiting 3"),
     ] {
         for opening in [
             "good profile 0009\ngood disc blank\n",

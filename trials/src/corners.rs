@@ -330,6 +330,8 @@ fn replies_52h(list: &mut List) {
     list.job("52h-address-bytes", "done 26", "52h: the address is in bytes 12 to 15", &tao(&track_data(48, 46, &[(13, 1), (14, 2), (15, 3)])));
     list.job("52h-free-bytes", "done 26", "52h: Free Blocks is in bytes 16 to 19, unsigned", &tao(&track_data(48, 46, &[(16, 0x80)])));
     list.job("52h-minus-150", "stop 10 3", "an address of -150 is read unsigned: 10", &tao("good track nwa 4294967146 free 300"));
+    list.job("52h-minus-151", "stop 10 3", "an address of -151 is read unsigned: 10", &tao("good track nwa 4294967145 free 300"));
+    list.job("52h-minus-45150", "stop 10 3", "an address of -45,150 is read unsigned: 10", &tao("good track nwa 4294922146 free 300"));
 }
 
 /// TAO: a fresh 52h before each track but the first, judged for 4, 7, 10.
@@ -349,13 +351,18 @@ fn later_52h(list: &mut List) {
     list.job("later-52h-4-before-7", "stop 4 26", "a short reply with Damage: 4 before 7", &second(&track_data(27, 26, &[(5, 0x20)])));
     list.job("later-52h-7-before-10", "stop 7 26", "a stale address and no room: 7 before 10", &second("good track nwa 1299 free 0"));
     list.job("later-52h-free", "stop 10 26", "S at the second 52h is this track and those after it: one block short: 10", &second("good track nwa 1300 free 602"));
-    list.job("later-52h-limit", "done 72", "lead-out limit at the second 52h: 449,849 passes", &format!("{first}good track nwa 449246 free 603\n{TRACK_300}good track nwa 449547 free 302\n23 x good\n"));
-    list.job("later-52h-over-limit", "stop 10 26", "lead-out limit at the second 52h: 449,850: 10", &second("good track nwa 449247 free 603"));
+    list.job("later-52h-limit", "done 72", "lead-out limit at the second 52h: 404,849 passes", &format!("{first}good track nwa 404246 free 603\n{TRACK_300}good track nwa 404547 free 302\n23 x good\n"));
+    list.job("later-52h-over-limit", "stop 10 26", "lead-out limit at the second 52h: 404,850: 10", &second("good track nwa 404247 free 603"));
+    list.job("later-52h-old-limit", "stop 10 26", "lead-out at 449,849 at the second 52h: 10", &second("good track nwa 449246 free 603"));
+    list.job("later-52h-address-over", "stop 10 26", "the second address itself beyond the limit: 10", &second("good track nwa 404850 free 603"));
     list.job("later-52h-wrap", "stop 10 26", "address plus S beyond 32 bits: 10", &second("good track nwa 4294967295 free 603"));
     list.job("later-52h-third-equal", "done 72", "third address equal to the second track's end passes", &third("good track nwa 1601 free 302"));
     list.job("later-52h-third-stale", "stop 7 49", "third address one less: 7", &third("good track nwa 1600 free 302"));
     list.job("later-52h-third-free", "stop 10 49", "the last track alone is S at the third 52h: 10", &third("good track nwa 1601 free 301"));
-    list.job("later-52h-third-over", "stop 10 49", "lead-out limit at the last 52h: 10", &third("good track nwa 449548 free 302"));
+    list.job("later-52h-third-over", "stop 10 49", "lead-out limit at the last 52h: 10", &third("good track nwa 404548 free 302"));
+    list.job("later-52h-third-limit", "done 72", "lead-out limit at the last 52h: 404,849 passes", &third("good track nwa 404547 free 302"));
+    list.job("later-52h-third-old-limit", "stop 10 49", "lead-out at 449,849 at the last 52h: 10", &third("good track nwa 449547 free 302"));
+    list.job("later-52h-lead-in", "stop 10 26", "an address of -45,150 at the second 52h is read unsigned: 10", &second("good track nwa 4294922146 free 603"));
     list.job("later-52h-gap-then-stale", "stop 7 49", "the end counts from the track's own start", &format!("{first}good track nwa 5000 free 603\n{TRACK_300}good track nwa 5300 free 302\n"));
     list.job("later-52h-failed", "stop 12 26 03 02 00", "the second 52h fails: 12", &second("failed 03 02 00"));
     list.job("later-52h-busy", "done 75", "the second 52h is busy, then good", &second("3 x busy\ngood track nwa 1300 free 603"));
@@ -392,14 +399,29 @@ fn fitting(list: &mut List) {
     list.job("10-free-sum", "stop 10 3", "S is the sum over all tracks", &tao("data 300 data 301 data 302", 0, 902));
     list.job("10-free-zero", "stop 10 3", "no free block: 10", &tao("data 300", 0, 0));
     list.job("10-free-most", "done 26", "Free Blocks is unsigned", &tao("data 300", 0, most));
-    list.job("10-limit-tao", "done 26", "TAO: lead-out at 449,849 passes", &tao("data 300", 449_549, most));
-    list.job("10-over-tao", "stop 10 3", "TAO: lead-out at 449,850: 10", &tao("data 300", 449_550, most));
-    list.job("10-limit-tao-sum", "stop 10 3", "TAO: the lead-out is the address plus all lengths: 10", &tao("data 300 data 300", 449_250, most));
-    list.job("10-over-tao-length", "stop 10 3", "TAO: a length beyond the limit: 10", &tao("data 449850", 0, most));
-    list.job("10-limit-sao", "waiting 44", "SAO with S 449,849 and room passes", &sao("data 449849", 449_849));
-    list.job("10-over-sao", "stop 10 3", "SAO with S 449,850: 10", &sao("data 449850", most));
-    list.job("10-limit-sao-sum", "waiting 44", "SAO: three tracks with S 449,849 pass", &sao("audio 300 audio 449249 audio 300", most));
-    list.job("10-over-sao-sum", "stop 10 3", "SAO: three tracks with S 449,850: 10", &sao("audio 300 audio 449250 audio 300", most));
+    list.job("10-limit-tao", "done 26", "TAO: lead-out at 404,849 passes", &tao("data 300", 404_549, most));
+    list.job("10-over-tao", "stop 10 3", "TAO: lead-out at 404,850: 10", &tao("data 300", 404_550, most));
+    list.job("10-limit-tao-sum", "stop 10 3", "TAO: the lead-out is the address plus all lengths: 10", &tao("data 300 data 300", 404_250, most));
+    list.job("10-over-tao-length", "stop 10 3", "TAO: a length beyond the limit: 10", &tao("data 404850", 0, most));
+    list.job("10-limit-sao", "waiting 44", "SAO with S 404,849 and room passes", &sao("data 404849", 404_849));
+    list.job("10-over-sao", "stop 10 3", "SAO with S 404,850: 10", &sao("data 404850", most));
+    list.job("10-limit-sao-sum", "waiting 44", "SAO: three tracks with S 404,849 pass", &sao("audio 300 audio 404249 audio 300", most));
+    list.job("10-over-sao-sum", "stop 10 3", "SAO: three tracks with S 404,850: 10", &sao("audio 300 audio 404250 audio 300", most));
+    // The limit of document 01, with minutes 90 to 99 behind minute 89.
+    list.job("10-old-limit-tao", "stop 10 3", "TAO: lead-out at 449,849: 10", &tao("data 300", 449_549, most));
+    list.job("10-old-over-tao", "stop 10 3", "TAO: lead-out at 449,850: 10", &tao("data 300", 449_550, most));
+    list.job("10-old-limit-tao-length", "stop 10 3", "TAO: a track of 449,849: 10", &tao("data 449849", 0, most));
+    list.job("10-old-limit-sao", "stop 10 3", "SAO with S 449,849: 10", &sao("data 449849", most));
+    list.job("10-old-limit-sao-sum", "stop 10 3", "SAO: three tracks with S 449,849: 10", &sao("audio 300 audio 449249 audio 300", most));
+    list.job("10-address-at-limit", "stop 10 3", "TAO: an address at the limit itself: 10", &tao("data 300", 404_849, most));
+    list.job("10-limit-tao-length", "waiting 27", "TAO: a track of 404,849 from 0 passes", &tao("data 404849", 0, most));
+    list.job("10-limit-tao-from-1", "stop 10 3", "TAO: a track of 404,849 from 1: 10", &tao("data 404849", 1, most));
+    list.job("10-limit-tao-two", "done 49", "TAO: two tracks with the lead-out at 404,849 pass", &format!(
+        "order tao data 300 data 300\n{TWO}good track nwa 404249 free 600\n{TRACK_300}good track nwa 404549 free 300\n{TAO_300}"
+    ));
+    let tracks = " data 4089".repeat(98);
+    list.job("10-limit-sao-99", "waiting 44", "SAO: 99 tracks with S 404,849 pass", &sao(&format!("{tracks} data 4127"), 404_849));
+    list.job("10-over-sao-99", "stop 10 3", "SAO: 99 tracks with S 404,850: 10", &sao(&format!("{tracks} data 4128"), most));
     list.job("10-length-most", "stop 10 3", "a length of 2^32 - 1: 10", &tao("data 4294967295", 0, most));
     list.job("10-sum-wraps", "stop 10 3", "lengths that add up to 2^32 + 300: 10", &tao("data 4294967295 data 301", 0, most));
     list.job("10-sum-wraps-sao", "stop 10 3", "SAO lengths that add up to 2^32 + 300: 10", &sao("data 4294967295 data 301", most));
@@ -572,9 +594,9 @@ fn counts(list: &mut List) {
     list.job("count-99-sao", "done 1897", "SAO, 99 tracks of 300: done 1897", &format!(
         "order sao{}\n{OPEN}1894 x good\n", " audio 300".repeat(99)
     ));
-    let full = "good profile 0009\ngood disc blank\ngood track nwa 0 free 449849\n";
-    list.job("count-full-sao", "done 28132", "SAO, a full disc of 449,849 blocks: done 28132", &format!("order sao data 449849\n{full}28129 x good\n"));
-    list.job("count-full-tao", "done 28123", "TAO, a full disc of 449,849 blocks: done 28123", &format!("order tao data 449849\n{full}28120 x good\n"));
+    let full = "good profile 0009\ngood disc blank\ngood track nwa 0 free 404849\n";
+    list.job("count-full-sao", "done 25320", "SAO, a full disc of 404,849 blocks: done 25320", &format!("order sao data 404849\n{full}25317 x good\n"));
+    list.job("count-full-tao", "done 25311", "TAO, a full disc of 404,849 blocks: done 25311", &format!("order tao data 404849\n{full}25308 x good\n"));
 }
 
 #[cfg(test)]

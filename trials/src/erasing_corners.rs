@@ -193,7 +193,7 @@ impl Opening {
     fn text(&self) -> String {
         let keep = if self.session == "keep" { " keep" } else { "" };
         let kind = if self.session == "mixed" { "audio" } else { "data" };
-        let (first, last) = (if self.short { 299 } else { 300 }, if self.long { 449_550 } else { 300 });
+        let (first, last) = (if self.short { 299 } else { 300 }, if self.long { 404_550 } else { 300 });
         let (method, profile, disc) = (self.method, self.profile, self.disc);
         format!("order {method}{keep} erase {kind} {first} data 300 data {last}\ngood profile {profile}\ngood disc {disc}\n")
     }
@@ -233,7 +233,7 @@ fn number_4_first(list: &mut List) {
         ("6", "tao erase data 300", "000A", 0x13),
         ("8", "sao keep erase data 300", "000A", 0x12),
         ("9", "tao erase data 299", "000A", 0x11),
-        ("10", "tao erase data 449850", "000A", 0x11),
+        ("10", "tao erase data 404850", "000A", 0x11),
         ("16", "tao erase data 300", "0009", 0x01),
     ] {
         let number_4 = job(order, profile, &disc_data(33, 32, byte_2));
@@ -243,32 +243,36 @@ fn number_4_first(list: &mut List) {
     }
 }
 
-/// "10 for S alone": S above 449,849, without address and Free Blocks; these
+/// "10 for S alone": S above 404,849, without address and Free Blocks; these
 /// count at the 52h.
 fn sum_alone(list: &mut List) {
     for method in ["tao", "sao"] {
         for (disc, before, more) in [("blank", TWO, 0), ("used", USED, 2)] {
             let first = |tracks: &str| format!("order {method} erase {tracks}\n{before}");
             let name = |what: &str| format!("erase-sum-{method}-{disc}-{what}");
-            let passes = "S of 449,849 passes at the first 51h";
-            list.job(&name("limit"), "waiting 3", passes, &first("data 449849"));
-            list.job(&name("limit-three"), "waiting 3", passes, &first("data 300 data 449249 data 300"));
-            let over = "S above 449,849: 10 at the first 51h";
-            list.job(&name("over"), "stop 10 2", over, &first("data 449850"));
-            list.job(&name("over-three"), "stop 10 2", over, &first("data 300 data 449250 data 300"));
+            let passes = "S of 404,849 passes at the first 51h";
+            list.job(&name("limit"), "waiting 3", passes, &first("data 404849"));
+            list.job(&name("limit-three"), "waiting 3", passes, &first("data 300 data 404249 data 300"));
+            let over = "S above 404,849: 10 at the first 51h";
+            list.job(&name("over"), "stop 10 2", over, &first("data 404850"));
+            list.job(&name("over-three"), "stop 10 2", over, &first("data 300 data 404250 data 300"));
+            list.job(&name("old-limit"), "stop 10 2", over, &first("data 449849"));
+            list.job(&name("old-over"), "stop 10 2", over, &first("data 449850"));
+            list.job(&name("old-limit-three"), "stop 10 2", over, &first("data 300 data 449249 data 300"));
             list.job(&name("most"), "stop 10 2", over, &first("data 4294967295"));
             list.job(&name("wraps"), "stop 10 2", "lengths that add up to 2^32 + 300: 10", &first("data 4294967295 data 301"));
             list.job(&name("most-of-all"), "stop 10 2", "99 tracks of 2^32 - 1: 10", &first(&" data 4294967295".repeat(99)));
             let erased = if more > 0 { ERASED } else { "" };
             let third = |tracks: &str, reply: &str| format!("{}{erased}{reply}\n", first(tracks));
             let given = |ends: &str, count: u64| format!("{ends} {}", count + more);
-            list.job(&name("limit-room"), &given("waiting", 4), "S of 449,849 with room passes at the 52h too", &third("data 449849", "good track nwa 0 free 449849"));
-            list.job(&name("limit-free"), &given("stop 10", 3), "Free Blocks counts only at the 52h: 10", &third("data 449849", "good track nwa 0 free 449848"));
+            list.job(&name("limit-room"), &given("waiting", 4), "S of 404,849 with room passes at the 52h too", &third("data 404849", "good track nwa 0 free 404849"));
+            list.job(&name("limit-free"), &given("stop 10", 3), "Free Blocks counts only at the 52h: 10", &third("data 404849", "good track nwa 0 free 404848"));
             let address = if method == "tao" { given("stop 10", 3) } else { given("waiting", 4) };
-            list.job(&name("limit-address"), &address, "the address counts only at the 52h, and in TAO alone: 10", &third("data 449849", "good track nwa 1 free 449849"));
+            list.job(&name("limit-address"), &address, "the address counts only at the 52h, and in TAO alone: 10", &third("data 404849", "good track nwa 1 free 404849"));
             list.job(&name("free-none"), &given("stop 10", 3), "no free block: 10, and only at the 52h", &third("data 300", "good track nwa 0 free 0"));
             let far = if method == "tao" { given("stop 10", 3) } else { given("waiting", 4) };
-            list.job(&name("far"), &far, "an address near the limit: 10 only at the 52h, and in TAO alone", &third("data 300", "good track nwa 449550 free 449849"));
+            list.job(&name("old-far"), &far, "lead-out at the old limit: 10 only at the 52h, and in TAO alone", &third("data 300", "good track nwa 449549 free 404849"));
+            list.job(&name("far"), &far, "an address near the limit: 10 only at the 52h, and in TAO alone", &third("data 300", "good track nwa 404550 free 404849"));
         }
     }
 }
@@ -531,8 +535,10 @@ fn track_information(list: &mut List) {
             add("both", &stop(7), "damaged and no address: 7", "good track nwa 0 free 300 damaged no-address");
             add("free", &stop(10), "one block short: 10", "good track nwa 0 free 299");
             add("free-most", &done, "Free Blocks is unsigned", "good track nwa 0 free 4294967295");
-            add("limit", &done, "lead-out at 449,849 passes", "good track nwa 449549 free 300");
-            add("over-limit", &in_tao(10), "lead-out at 449,850: 10 in TAO", "good track nwa 449550 free 300");
+            add("limit", &done, "lead-out at 404,849 passes", "good track nwa 404549 free 300");
+            add("over-limit", &in_tao(10), "lead-out at 404,850: 10 in TAO", "good track nwa 404550 free 300");
+            add("old-limit", &in_tao(10), "lead-out at 449,849: 10 in TAO", "good track nwa 449549 free 300");
+            add("minus-45150", &in_tao(10), "an address of -45,150 is read unsigned: 10 in TAO", "good track nwa 4294922146 free 300");
             add("minus-150", &in_tao(10), "an address of -150 is read unsigned: 10 in TAO", "good track nwa 4294967146 free 300");
             add("7-before-10", &stop(7), "damaged and no room: 7 before 10", "good track nwa 0 free 0 damaged");
             add("empty", &stop(4), "52h without data: 4", "good");
@@ -555,9 +561,14 @@ fn later_tracks(list: &mut List) {
     list.job("erase-later-zero", "stop 7 28", "the erased disc's start again: 7", &second("good track nwa 0 free 301"));
     list.job("erase-later-damaged", "stop 7 28", "Damage at the second 52h: 7", &second("good track nwa 1300 free 301 damaged"));
     list.job("erase-later-free", "stop 10 28", "no room at the second 52h: 10", &second("good track nwa 1300 free 300"));
+    list.job("erase-later-limit", "done 51", "lead-out limit at the second 52h: 404,849 passes", &second("good track nwa 404548 free 301"));
+    list.job("erase-later-over-limit", "stop 10 28", "lead-out limit at the second 52h: 404,850: 10", &second("good track nwa 404549 free 301"));
+    list.job("erase-later-old-limit", "stop 10 28", "lead-out at 449,849 at the second 52h: 10", &second("good track nwa 449548 free 301"));
     list.job("erase-later-short", "stop 4 28", "the second 52h is too short: 4", &second("good"));
     let blank = first.replace(USED, TWO).replace(ERASED, "");
     list.job("erase-later-blank-equal", "done 49", "not erased: second address equal to the previous end passes", &format!("{blank}good track nwa 1300 free 301\n{TAO_300}"));
+    list.job("erase-later-blank-limit", "done 49", "not erased: lead-out limit at the second 52h: 404,849 passes", &format!("{blank}good track nwa 404548 free 301\n{TAO_300}"));
+    list.job("erase-later-blank-over-limit", "stop 10 26", "not erased: lead-out limit at the second 52h: 404,850: 10", &format!("{blank}good track nwa 404549 free 301\n"));
     list.job("erase-later-blank-stale", "stop 7 26", "not erased: second address one less: 7", &format!("{blank}good track nwa 1299 free 301\n"));
 }
 
@@ -610,7 +621,8 @@ fn after_the_end(list: &mut List) {
     add("6-again", "stop 6 4", &format!("order tao erase data 300\n{USED}good\ngood disc appendable erasable\n"));
     add("8", "stop 8 2", &format!("order sao keep erase data 300\n{USED}"));
     add("9", "stop 9 2", &format!("order tao erase data 299\n{USED}"));
-    add("10", "stop 10 2", &format!("order tao erase data 449850\n{USED}"));
+    add("10", "stop 10 2", &format!("order tao erase data 404850\n{USED}"));
+    add("10-old-limit", "stop 10 2", &format!("order sao erase data 449849\n{USED}"));
     add("12", "stop 12 3 05 20 00", &format!("order tao erase data 300\n{USED}failed 05 20 00\n"));
     add("12-polled", "stop 12 4 03 51 00", &format!("order tao immed erase data 300\n{USED}good\nfailed 03 51 00\n"));
     add("16", "stop 16 2", "order tao erase data 300\ngood profile 0009\ngood disc appendable\n");

@@ -557,11 +557,17 @@ fn numbers_with_the_flag(list: &mut List) {
     list.job("immed-number-8-mixed", "stop 8 3", "SAO of mixed kinds with the flag: 8", &job("sao immed data 300 audio 300", "0009", "blank", full));
     list.job("immed-number-9", "stop 9 3", "a track of 299 with the flag: 9", &job("sao immed data 299", "0009", "blank", full));
     list.job("immed-number-10", "stop 10 3", "no room with the flag: 10", &job("tao immed data 301", "0009", "blank", room));
-    list.job("immed-number-10-sao", "stop 10 3", "SAO beyond the lead-out limit with the flag: 10", &job("sao immed data 449850", "0009", "blank", "good track nwa 0 free 4294967295"));
+    list.job("immed-number-10-sao", "stop 10 3", "SAO beyond the lead-out limit with the flag: 10", &job("sao immed data 404850", "0009", "blank", "good track nwa 0 free 4294967295"));
+    list.job("immed-number-10-old-limit", "stop 10 3", "SAO with S 449,849 with the flag: 10", &job("sao immed data 449849", "0009", "blank", "good track nwa 0 free 4294967295"));
+    list.job("immed-number-10-tao", "stop 10 3", "TAO beyond the lead-out limit with the flag: 10", &job("tao immed data 300", "0009", "blank", "good track nwa 404550 free 300"));
+    list.job("immed-limit-sao", "waiting 44", "SAO with S 404,849 with the flag passes", &job("sao immed data 404849", "0009", "blank", "good track nwa 0 free 404849"));
+    list.job("immed-limit-tao", "done 32", "TAO: lead-out at 404,849 with the flag passes", &format!("order tao immed data 300\n{TWO}good track nwa 404549 free 300\n{TO_35H}{POLL}good\n{POLL}good\n{POLL}"));
     let first = format!("order tao immed data 300 data 301\n{TWO}good track nwa 1000 free 601\n{TO_35H}{POLL}good\n{POLL}");
     list.job("immed-later-4", "stop 4 30", "the second 52h is too short: 4", &format!("{first}good\n"));
     list.job("immed-later-7", "stop 7 30", "the second 52h has a stale address: 7", &format!("{first}good track nwa 1299 free 301\n"));
     list.job("immed-later-10", "stop 10 30", "no room at the second 52h: 10", &format!("{first}good track nwa 1300 free 300\n"));
+    list.job("immed-later-limit", "done 59", "lead-out limit at the second 52h: 404,849 passes", &format!("{first}good track nwa 404548 free 301\n{TO_35H}{POLL}good\n{POLL}good\n{POLL}"));
+    list.job("immed-later-over-limit", "stop 10 30", "lead-out limit at the second 52h: 404,850: 10", &format!("{first}good track nwa 404549 free 301\n"));
     list.job("immed-later-passes", "done 59", "the second address equal to the previous end passes", &format!("{first}good track nwa 1300 free 301\n{TO_35H}{POLL}good\n{POLL}good\n{POLL}"));
     let slow = first.replace(POLL, &format!("good\ngood progress 8000\n{POLL}"));
     list.job("immed-later-after-rounds", "stop 7 34", "long pollings change no address: 7", &format!("{slow}good track nwa 1299 free 301\n"));

@@ -19,6 +19,8 @@ use second::wellformed::{
 /// A job longer than this is cut, unless it has very many tracks.
 const MOST_REPLIES: usize = 600;
 const LIMIT: u64 = LAST_ADDRESS as u64;
+/// The limit of document 01, before Ask 3 of document 02.
+const OLD_LIMIT: u64 = 449_849;
 const BUSY_CODES: [u8; 2] = [0x70, 0xF0];
 
 /// A job's input for the print program, and what was made odd in it.
@@ -106,7 +108,15 @@ fn odd_lengths(rng: &mut Rng, limited: bool, lengths: &mut [u32], notes: &mut Ve
             notes.push(format!("track {} has {} blocks", place + 1, lengths[place]));
         }
         4..=6 => {
-            let huge = [u32::MAX, u32::MAX - 1, 1 << 31, 449_849, 449_850, 450_000];
+            let huge = [
+                u32::MAX,
+                u32::MAX - 1,
+                1 << 31,
+                404_849,
+                404_850,
+                405_000,
+                OLD_LIMIT as u32,
+            ];
             lengths[place] = rng.pick(&huge);
             notes.push(format!("track {} has {} blocks", place + 1, lengths[place]));
         }
@@ -117,7 +127,16 @@ fn odd_lengths(rng: &mut Rng, limited: bool, lengths: &mut [u32], notes: &mut Ve
         9..=12 if limited => {
             let others =
                 lengths.iter().map(|&l| u64::from(l)).sum::<u64>() - u64::from(lengths[place]);
-            let sum = rng.pick(&[LIMIT - 1, LIMIT, LIMIT, LIMIT + 1]);
+            let sum = rng.pick(&[
+                LIMIT - 1,
+                LIMIT,
+                LIMIT,
+                LIMIT,
+                LIMIT,
+                LIMIT + 1,
+                LIMIT + 1,
+                OLD_LIMIT,
+            ]);
             lengths[place] = (sum - others) as u32;
             notes.push(format!("the lengths add up to {sum}"));
         }
@@ -625,9 +644,16 @@ impl<'a> Maker<'a> {
 
     fn at_the_limit(&mut self, fields: &mut TrackFields) -> String {
         let remaining = self.remaining();
-        let lead_out = self
-            .rng
-            .pick(&[LIMIT - 1, LIMIT, LIMIT + 1, 1 << 32, (1 << 32) + 300]);
+        let lead_out = self.rng.pick(&[
+            LIMIT - 1,
+            LIMIT,
+            LIMIT,
+            LIMIT + 1,
+            LIMIT + 1,
+            OLD_LIMIT,
+            1 << 32,
+            (1 << 32) + 300,
+        ]);
         fields.next_writable = lead_out.wrapping_sub(remaining) as u32;
         fields.free = u32::MAX;
         format!(
@@ -747,8 +773,11 @@ fn first_address(rng: &mut Rng, method: Method, blocks: u64) -> u32 {
         0..=29 => 0,
         30..=44 => LIMIT.saturating_sub(blocks),
         45..=48 => LIMIT.saturating_sub(blocks) + 1,
-        49..=50 => (1 << 32) - 150,
+        49 => (1 << 32) - 150,
+        // The lead-in's first and last address, which are read unsigned.
+        50 => (1 << 32) - rng.pick(&[45_150, 151]),
         51..=52 => (1u64 << 32).saturating_sub(blocks),
+        53 => OLD_LIMIT.saturating_sub(blocks),
         _ if method == Method::Sao && rng.chance(30) => rng.next_u64(),
         _ => rng.below(20_000),
     };

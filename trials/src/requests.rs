@@ -1,11 +1,14 @@
-//! Requests for the layouts tool: random ones, and a fixed list of corners.
+//! Requests for the layouts tool: random ones, a fixed list of corners, and
+//! every address and every time.
 
 use second::blocks::{order_block, reply_block, seal, Reply, Status, BLOCK, MOST_DATA};
 use second::hex;
 use second::rng::Rng;
 use second::units::{Flags, Kind, Method, Order, Track, MOST_TRACKS};
 
-const LIMIT: u32 = 449_849;
+const LIMIT: u32 = 404_849;
+/// The limit of document 01, before Ask 3 of document 02.
+const OLD_LIMIT: u32 = 449_849;
 const KINDS: [Kind; 2] = [Kind::Audio, Kind::Data];
 const METHODS: [Method; 2] = [Method::Tao, Method::Sao];
 /// Flag bytes with Immed or erase, and flag bytes that no order has.
@@ -31,10 +34,11 @@ pub fn random(rng: &mut Rng) -> String {
 }
 
 fn any_address(rng: &mut Rng) -> i64 {
-    match rng.below(8) {
+    match rng.below(10) {
         0 => rng.pick(&[-152, -151, -150, -149, -1, 0, 1, 74, 75, 76]),
-        1 => rng.pick(&[449_848, 449_849, 449_850, 450_000]),
-        2 => rng.pick(&[
+        1 => rng.pick(&[404_848, 404_849, 404_850, 405_000, 449_849, 449_850]),
+        2 => rng.pick(&[-45_152, -45_151, -45_150, -45_149, -450_150, -450_000]),
+        3 => rng.pick(&[
             i64::MIN,
             i64::MAX,
             1 << 32,
@@ -42,13 +46,15 @@ fn any_address(rng: &mut Rng) -> i64 {
             (1 << 32) - 150,
             i64::MIN + 150,
         ]),
-        3 => rng.next_u64() as i64,
-        _ => rng.below(450_000) as i64 - 150,
+        4 => rng.next_u64() as i64,
+        5 => rng.below(45_000) as i64 - 45_150,
+        _ => rng.below(450_000) as i64 - 45_150,
     }
 }
 
 fn random_address(rng: &mut Rng) -> String {
-    let minute = near(rng, 100);
+    let limit = rng.pick(&[90, 100]);
+    let minute = near(rng, limit);
     let second = near(rng, 60);
     let frame = near(rng, 75);
     format!("address {minute} {second} {frame}")
@@ -108,7 +114,7 @@ fn any_count(rng: &mut Rng) -> usize {
 fn any_length(rng: &mut Rng) -> u32 {
     match rng.below(40) {
         0 => rng.pick(&[0, 1, 299, 300, 301]),
-        1 => rng.pick(&[u32::MAX, u32::MAX - 1, 1 << 31, LIMIT, LIMIT + 1]),
+        1 => rng.pick(&[u32::MAX, u32::MAX - 1, 1 << 31, LIMIT, LIMIT + 1, OLD_LIMIT]),
         2 => rng.next_u64() as u32,
         _ => rng.between(300, 5_000) as u32,
     }
@@ -142,7 +148,7 @@ fn reach_limit(rng: &mut Rng, order: &mut Order) {
     }
     let place = rng.below(order.tracks.len() as u64) as usize;
     let others = order.blocks_from(0).0 - u64::from(order.tracks[place].length);
-    let limit = u64::from(rng.pick(&[LIMIT - 1, LIMIT, LIMIT, LIMIT + 1]));
+    let limit = u64::from(rng.pick(&[LIMIT - 1, LIMIT, LIMIT, LIMIT + 1, LIMIT + 1, OLD_LIMIT]));
     if let Some(length) = limit.checked_sub(others) {
         order.tracks[place].length = length as u32;
     }
@@ -332,13 +338,13 @@ fn change_sheet(rng: &mut Rng, bytes: &mut Vec<u8>) {
     }
     let place = rng.below(length as u64) as usize;
     let entry = 8 * rng.below(length as u64 / 8) as usize;
-    match rng.below(12) {
+    match rng.below(13) {
         0..=1 => bytes[place] = rng.byte(),
         2 => bytes[place] ^= 1 << rng.below(8),
         3..=4 => bytes[entry + 7] = bytes[entry + 7].wrapping_add(1),
         5 => bytes[entry + 7] = bytes[entry + 7].wrapping_sub(1),
         6 => bytes[entry + 6] = rng.pick(&[0, 59, 60, 74]),
-        7 => bytes[entry + 5] = rng.pick(&[0, 99, 100]),
+        7 => bytes[entry + 5] = rng.pick(&[0, 89, 90, 99, 100]),
         8 => bytes.truncate(rng.pick(&[length - 1, length - 8, entry, 0])),
         9 => {
             let more = rng.pick(&[1, 8]);
@@ -348,8 +354,13 @@ fn change_sheet(rng: &mut Rng, bytes: &mut Vec<u8>) {
             let repeated = bytes[entry..entry + 8].to_vec();
             bytes.splice(entry..entry, repeated);
         }
-        _ => {
+        11 => {
             bytes.drain(entry..entry + 8);
+        }
+        _ => {
+            // All entries, or index 1 and lead-out, moved into the lead-in.
+            let entries = bytes[rng.pick(&[0, 16])..].chunks_exact_mut(8);
+            entries.for_each(|entry| entry[5] = entry[5].wrapping_add(90));
         }
     }
 }
@@ -410,6 +421,19 @@ fn any_write_count(rng: &mut Rng) -> u32 {
     ])
 }
 
+// ---- every address and every time ----
+
+/// Every address with a time, and the one ahead of and behind them, which are
+/// refused; then every time from 00:00:00 to 99:59:74.
+pub fn every_time() -> impl Iterator<Item = String> {
+    let addresses = (-45_151..=404_850).map(|address| format!("time {address}"));
+    let seconds = (0..100).flat_map(|minute| (0..60).map(move |second| (minute, second)));
+    let times = seconds.flat_map(|(minute, second)| {
+        (0..75).map(move |frame| format!("address {minute} {second} {frame}"))
+    });
+    addresses.chain(times)
+}
+
 // ---- the fixed list ----
 
 /// All corner requests.
@@ -432,6 +456,20 @@ fn time_corners(list: &mut Vec<String>) {
         i64::MIN,
         i64::MIN + 150,
         -(1 << 32),
+        -450_151,
+        -450_150,
+        -45_152,
+        -45_151,
+        -45_150,
+        -45_149,
+        -45_076,
+        -45_075,
+        -40_651,
+        -40_650,
+        -4_651,
+        -4_650,
+        -226,
+        -225,
         -152,
         -151,
         -150,
@@ -446,20 +484,29 @@ fn time_corners(list: &mut Vec<String>) {
         4_349,
         4_350,
         4_351,
-        449_774,
-        449_775,
-        449_848,
+        400_349,
+        400_350,
+        404_774,
+        404_775,
+        404_848,
+        404_849,
+        404_850,
+        404_999,
+        405_000,
         449_849,
         449_850,
         449_999,
         450_000,
+        (1 << 32) - 45_150,
+        (1 << 32) - 151,
         (1 << 32) - 150,
         1 << 32,
+        i64::MAX - 450_150,
         i64::MAX - 150,
         i64::MAX,
     ];
     list.extend(addresses.map(|address| format!("time {address}")));
-    for minute in [0, 1, 98, 99, 100, 101, 255] {
+    for minute in [0, 1, 88, 89, 90, 91, 98, 99, 100, 101, 255] {
         for second in [0, 1, 2, 59, 60, 61, 255] {
             for frame in [0, 1, 74, 75, 76, 255] {
                 list.push(format!("address {minute} {second} {frame}"));
@@ -617,8 +664,9 @@ fn sheet_corners(list: &mut Vec<String>) {
         "sheet 40 2 15 2 0 300 0 450",
         "sheet 39 2 8 2 0 300 0 450",
         "sheet 32 2 8 1 1 299",
+        "sheet 32 2 8 1 1 404849",
+        "sheet 32 2 8 1 1 404850",
         "sheet 32 2 8 1 1 449849",
-        "sheet 32 2 8 1 1 449850",
         "sheet 40 1 8 2 0 300 0 450",
         "sheet 39 2 4 2 0 300 0 450",
         "sheet 40 1 4 2 0 300 0 450",
@@ -627,20 +675,30 @@ fn sheet_corners(list: &mut Vec<String>) {
         "sheet 0 2 0 2 0 300 0 450",
         "sheet 32 2 0 1 1 299",
         "sheet 32 2 0 1 1 300",
+        "sheet 32 2 0 1 1 404848",
+        "sheet 32 2 0 1 1 404849",
+        "sheet 31 2 0 1 1 404849",
+        "sheet 32 2 0 1 0 404849",
+        "sheet 32 2 0 1 1 404850",
+        "sheet 31 2 0 1 1 404850",
+        "sheet 32 2 0 1 0 404850",
         "sheet 32 2 0 1 1 449849",
         "sheet 32 2 0 1 1 449850",
         "sheet 32 2 0 1 1 4294967295",
+        "sheet 40 2 0 2 1 404549 1 300",
+        "sheet 40 2 0 2 1 404550 1 300",
+        "sheet 40 2 0 2 1 300 1 404549",
+        "sheet 40 2 0 2 1 300 1 404550",
         "sheet 40 2 0 2 1 449549 1 300",
-        "sheet 40 2 0 2 1 449550 1 300",
         "sheet 40 2 0 2 1 4294967295 1 301",
         "sheet 40 2 0 2 1 2147483648 1 2147483948",
         "sheet 40 1 0 2 0 300 0 450",
         "sheet 40 1 1 2 0 300 1 299",
         "sheet 40 2 1 2 0 300 0 450",
         "sheet 40 2 0 2 0 300 1 450",
-        "sheet 40 2 0 2 0 299 1 449850",
-        "sheet 40 2 1 2 0 299 0 449850",
-        "sheet 40 2 0 2 0 299 0 449850",
+        "sheet 40 2 0 2 0 299 1 404850",
+        "sheet 40 2 1 2 0 299 0 404850",
+        "sheet 40 2 0 2 0 299 0 404850",
         "sheet 0 2 0 0",
         "sheet 0 2 1 0",
         "sheet 0 1 0 0",
@@ -665,13 +723,18 @@ fn sheet_read_corners(list: &mut Vec<String>) {
         order
     };
     for kind in KINDS {
-        let sheets: [&[u32]; 10] = [
+        let sheets: [&[u32]; 14] = [
             &[],
             &[0],
             &[299],
             &[300],
             &[300, 450],
             &[300, 299],
+            &[404_849],
+            &[404_850],
+            &[404_549, 300],
+            &[404_550, 300],
+            // Up to 99:59:74 by the sum of minutes 0 to 89.
             &[449_849],
             &[449_850],
             &[449_549, 300],
@@ -695,10 +758,51 @@ fn sheet_read_corners(list: &mut Vec<String>) {
         push(&[small.as_slice(), &[0]].concat());
         push(&[small.as_slice(), &[0; 8]].concat());
     }
+    for times in lead_in_times() {
+        for kind in KINDS {
+            for lengths in [&[300][..], &[300, 450], &[404_849], &[404_549, 300]] {
+                let sheet = loose_sheet(&order(kind, lengths));
+                for entry in (0..sheet.len()).step_by(8) {
+                    // In this entry alone, and in it and all behind it.
+                    for last in [entry, sheet.len() - 8] {
+                        let mut changed = sheet.clone();
+                        for place in (entry..=last).step_by(8) {
+                            changed[place + 5..place + 8].copy_from_slice(&times);
+                        }
+                        push(&changed);
+                    }
+                }
+            }
+        }
+    }
+    // All entries within the lead-in, where their lengths would be right.
+    for first in [0, 16] {
+        for minutes in [89, 90, 99] {
+            let mut shifted = loose_sheet(&order(Kind::Audio, &[300, 450]));
+            let entries = shifted[first..].chunks_exact_mut(8);
+            entries.for_each(|entry| entry[5] += minutes);
+            push(&shifted);
+        }
+    }
     let mut mixed = loose_sheet(&order(Kind::Data, &[300, 450]));
     mixed[24] = 0x01;
     mixed[27] = 0x00;
     push(&mixed);
+}
+
+/// Times around minute 90, which no sheet has from there on, and 89:59:74, the
+/// last that one has.
+fn lead_in_times() -> [[u8; 3]; 8] {
+    [
+        [89, 59, 73],
+        [89, 59, 74],
+        [90, 0, 0],
+        [90, 0, 1],
+        [90, 2, 0],
+        [99, 59, 73],
+        [99, 59, 74],
+        [100, 0, 0],
+    ]
 }
 
 fn command_corners(list: &mut Vec<String>) {
@@ -729,12 +833,21 @@ fn command_corners(list: &mut Vec<String>) {
         }
         for address in [
             i64::MIN,
+            -45_151,
+            -45_150,
+            -45_149,
+            -152,
             -151,
             -150,
+            -149,
             -1,
             0,
+            404_848,
+            404_849,
+            404_850,
             449_849,
             449_850,
+            (1 << 32) - 151,
             (1 << 32) - 150,
             1 << 32,
             i64::MAX,
@@ -875,6 +988,29 @@ mod tests {
                 seen.contains(&(name.to_string(), ending.to_string())),
                 "{name} {ending}"
             );
+        }
+    }
+
+    /// The ends are refused; every other request's answer, asked in turn,
+    /// gives back what it was asked with.
+    #[test]
+    fn every_time_and_back() {
+        let requests: Vec<String> = every_time().collect();
+        assert_eq!(requests.len(), 450_002 + 450_000);
+        assert_eq!(requests[0], "time -45151");
+        assert_eq!(requests[450_001], "time 404850");
+        assert_eq!(requests[450_002], "address 0 0 0");
+        assert_eq!(requests[900_001], "address 99 59 74");
+        for (place, request) in requests.iter().enumerate() {
+            let answered = answer(request);
+            if place == 0 || place == 450_001 {
+                assert_eq!(answered, "refused 15", "{request}");
+                continue;
+            }
+            let (name, asked) = request.split_once(' ').unwrap();
+            let back = if name == "time" { "address" } else { "time" };
+            let back = answered.replacen("ok", back, 1);
+            assert_eq!(answer(&back), format!("ok {asked}"), "{request}");
         }
     }
 

@@ -68,7 +68,7 @@ impl Watch {
         let kinds = order.tracks.windows(2).all(|w| w[0].kind == w[1].kind);
         assert!(order.method == Method::Tao || (kinds && !order.flags.keep));
         assert!(order.tracks.iter().all(|track| track.length >= 300));
-        assert!(order.blocks_from(0).0 <= 449_849);
+        assert!(order.blocks_from(0).0 <= 404_849);
     }
 
     /// A WRITE is given: with the flag the latest 51h said blank, and a disc

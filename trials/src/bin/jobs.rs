@@ -4,6 +4,7 @@
 //! - `jobs corners DIR`: the fixed corner jobs and their index
 //! - `jobs layouts SEED COUNT`: random requests for the layouts tool
 //! - `jobs layout-corners`: the fixed list of requests
+//! - `jobs every-time`: requests for every address and every time
 //! - `jobs cdtext SEED COUNT`: random CD-TEXT requests in their binary form
 //! - `jobs cdtext-corners`: the fixed list of these
 
@@ -19,6 +20,7 @@ const USAGE: &str = "usage: jobs random SEED COUNT DIR
        jobs corners DIR
        jobs layouts SEED COUNT
        jobs layout-corners
+       jobs every-time
        jobs cdtext SEED COUNT
        jobs cdtext-corners";
 
@@ -40,6 +42,7 @@ fn run(words: &[&str]) -> Result<(), String> {
         ["corners", dir] => corner_jobs(Path::new(dir)),
         ["layouts", seed, count] => random_requests(number(seed)?, number(count)?),
         ["layout-corners"] => corner_requests(),
+        ["every-time"] => print_lines(requests::every_time()),
         ["cdtext", seed, count] => random_cdtext(number(seed)?, number(count)?),
         ["cdtext-corners"] => corner_cdtext(),
         _ => return Err(USAGE.to_string()),
