@@ -13,7 +13,7 @@ use Rattle.mmc.specs.Times.{firstAddress, lastAddress, leadInMinute, lea
 use Rattle.basics.proofs.Tests.{both, known}
 use Rattle.mmc.specs.Refusals.{pass, refuse}
 use Rattle.basics.proofs.Signed.{less}
-use Rattle.mmc.proofs.times.Signed.{frames, range-time, time-range, in-program, in-lead-in, few-frames}
+use Rattle.mmc.proofs.times.Signed.{frames, range-time, time-range, in-program, in-lead-in, few-frames, before-90, from-90}
 use Rattle.mmc.specs.declared.units.BlockAddress.{BlockAddress}
 use Rattle.mmc.specs.declared.units.FrameCount.{FrameCount}
 use Rattle.mmc.specs.declared.times.Time.{Time}
@@ -78,11 +78,11 @@ time-back : (a : BlockAddress) → hasTime a ≡ true → addressAtTime (timeAt 
 unfolding addressAtTime
 time-back a h =
     known (leZ firstAddress (a .0))
-    (λ l. let r = time-range a h l in rw (in-program a l) (simp (early (framesTo a) (frames a r .1), count-back, address-back a r)))
+    (λ l. let r = time-range a h l in rw (in-program a l) (simp (early (framesTo a) (before-90 a r), count-back, address-back a r)))
     (λ l.
     let w = in-lead-in a h l in
     let e : leadInAt (timeFrames a) ≡ a = ap (λ (x : ℤ). record { 0 = x }) (ap (λ (x : ℤ). x -ℤ pos leadInFrames) (sym (w .0)) ∙ +ℤ-negℤ-cancel (a .0) (pos leadInFrames)) in
-    simp (late (timeFrames a) (w .1)) (ap leadInAt (count-back (timeFrames a)) ∙ e))
+    simp (late (timeFrames a) (from-90 a h l)) (ap leadInAt (count-back (timeFrames a)) ∙ e))
 
 -- the address at a count of frames has a time, which is as many frames: before minute 90, and from there on
 abbrev Found : BlockAddress → FrameCount → Type 0

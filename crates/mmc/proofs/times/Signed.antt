@@ -24,8 +24,8 @@ sorted (negsuc n) h = inr (n, refl, leb-true n 149 (both (leZ (negsuc 149) (negs
 minus : (k n : ℕ) → n < k → subℕ k (suc n) ≡ pos (k - suc n)
 minus k n h = simp (le-ltb k (suc n) h)
 
--- the frames to an address in range: 90 minutes of them
-pub frames : (a : BlockAddress) → inRange a ≡ true → (a .0 +ℤ pos 150 ≡ pos (framesTo a .0)) × (framesTo a .0 < 405000)
+-- the frames to an address in range
+pub frames : (a : BlockAddress) → inRange a ≡ true → (a .0 +ℤ pos 150 ≡ pos (framesTo a .0)) × (framesTo a .0 < 450000)
 unfolding inRange framesTo
 frames a h =
     ⊎-elim
@@ -57,24 +57,40 @@ pub in-program : (a : BlockAddress) → leZ firstAddress (a .0) ≡ true → tim
 unfolding timeFrames
 in-program a l = simp l
 
--- in the lead-in it is of minutes 90 to 99
+-- in the lead-in it is so many frames ahead
 ahead : (z : ℤ) (n : ℕ) → z ≡ negsuc n → n < leadInFrames → z +ℤ pos leadInFrames ≡ pos (leadInFrames - suc n)
 ahead z n e h = rw e (minus leadInFrames n h)
 
-pub in-lead-in : (a : BlockAddress) → hasTime a ≡ true → leZ firstAddress (a .0) ≡ false → (a .0 +ℤ pos leadInFrames ≡ pos (timeFrames a .0)) × (405000 ≤ timeFrames a .0) × (timeFrames a .0 < 450000)
+pub in-lead-in : (a : BlockAddress) → hasTime a ≡ true → leZ firstAddress (a .0) ≡ false → (a .0 +ℤ pos leadInFrames ≡ pos (timeFrames a .0)) × (timeFrames a .0 < 450000)
 unfolding hasTime timeFrames
 in-lead-in a h l =
     let w = below (a .0) h l in
     let e : a .0 +ℤ pos leadInFrames ≡ pos (leadInFrames - suc (w .0)) = ahead (a .0) (w .0) (w .1) (omega arith) in
     let f : timeFrames a .0 ≡ leadInFrames - suc (w .0) = simp l (ap natAbs e) in
-    (e ∙ ap pos (sym f), omega arith, omega arith)
+    (e ∙ ap pos (sym f), omega arith)
 
 -- an address with a time has it before minute 100
 pub few-frames : (a : BlockAddress) → hasTime a ≡ true → timeFrames a .0 < 450000
 few-frames a h =
     known (leZ firstAddress (a .0))
     (λ l. rw (in-program a l) (omega (arith, frames a (time-range a h l) .1)))
-    (λ l. in-lead-in a h l .2)
+    (λ l. in-lead-in a h l .1)
+
+-- the program area ends before minute 90, and the lead-in begins there
+pub before-90 : (a : BlockAddress) → inRange a ≡ true → framesTo a .0 < 405000
+unfolding inRange framesTo
+before-90 a h =
+    ⊎-elim
+    (λ w. rw (w .1) (omega arith))
+    (λ w. rw (w .1, minus 150 (w .0) (omega arith)) (omega arith))
+    (sorted (a .0) h)
+
+pub from-90 : (a : BlockAddress) → hasTime a ≡ true → leZ firstAddress (a .0) ≡ false → 405000 ≤ timeFrames a .0
+unfolding hasTime timeFrames
+from-90 a h l =
+    let w = below (a .0) h l in
+    let f : timeFrames a .0 ≡ leadInFrames - suc (w .0) = simp l (ap natAbs (ahead (a .0) (w .0) (w .1) (omega arith))) in
+    omega arith
 
 -- an address in range with 2 ^ 32 added: its remainder by 2 ^ 32 is the address in two's complement
 abbrev pub raised : ℤ → ℕ

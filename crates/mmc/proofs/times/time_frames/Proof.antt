@@ -1,6 +1,6 @@
 use mathlib.Core.Bool.{true, false}
 use mathlib.Core.Path.{_≡_, sym, ap, _∙_}
-use Prim.Native.Nat.{_<_, _≤_}
+use Prim.Native.Nat.{_<_}
 use native.Mathlib.Omega.{arith}
 use lib.IntN.{ℤ, pos, _+ℤ_, natAbs}
 use lib.Signed.{leZ}
@@ -29,17 +29,17 @@ frames-to-requires : tie.Need-frames-to-requires
 frames-to-requires c κs = time-range _ (c .before .before .pre) (above c)
 
 -- lower: the lead-in
-here : (c : tie.Else1) → (A c .0 +ℤ pos leadInFrames ≡ pos (timeFrames (A c) .0)) × (405000 ≤ timeFrames (A c) .0) × (timeFrames (A c) .0 < 450000)
+here : (c : tie.Else1) → (A c .0 +ℤ pos leadInFrames ≡ pos (timeFrames (A c) .0)) × (timeFrames (A c) .0 < 450000)
 here c = in-lead-in (A c) (c .before .before .pre) (rw (toZ-ofZ (fits (c .before .before))) at (c .if1 .left))
 
 back : (c : tie.Else1) → toZ w64 (ofZ w64 (toZ w64 (ofZ w64 (A c .0)) +ℤ pos leadInFrames)) ≡ pos (timeFrames (A c) .0)
-back c = sum-is (A c .0) leadInFrames (timeFrames (A c) .0) (search needs) (here c .0) (omega (arith, here c .2))
+back c = sum-is (A c .0) leadInFrames (timeFrames (A c) .0) (search needs) (here c .0) (omega (arith, here c .1))
 
 add-t5 : tie.Need-add-t5
-add-t5 c = sum-fits (A c .0) leadInFrames (timeFrames (A c) .0) (search needs) (here c .0) (omega (arith, here c .2))
+add-t5 c = sum-fits (A c .0) leadInFrames (timeFrames (A c) .0) (search needs) (here c .0) (omega (arith, here c .1))
 
 cast-t6 : tie.Need-cast-t6
-cast-t6 c = rw (back c) (tt, record { fits = omega (arith, here c .2) })
+cast-t6 c = rw (back c) (tt, record { fits = omega (arith, here c .1) })
 
 returns : tie.Need-returns
 returns c = c .frames-to .ensures ∙ sym (in-program _ (above (c .before)))
