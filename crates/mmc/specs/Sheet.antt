@@ -205,6 +205,10 @@ pub record Ordered (n : ℕ) (b : List ℕ) : Type 0 where
 
 -- ---- what the times stand for
 
+-- the minute of the entry i
+abbrev pub minuteIn : ℕ → List ℕ → ℕ
+minuteIn i b = getD b (8 * i + 5) 0
+
 -- the addresses that the times of n entries stand for
 unfoldable pub addressesIn : ℕ → List ℕ → List (Outcome BlockAddress)
 addressesIn zero b = []
@@ -218,7 +222,7 @@ startsFrom at (t ∷ ts) = pass at ∷ startsFrom (behind at (t .length)) ts
 -- ---- the contracts
 
 -- what the maker promises: the sheet, the length that SEND CUE SHEET bears, that it reads back, that its times are in order, and that
--- who turns them into addresses finds where the pause, each track and the lead-out were ordered
+-- whoever turns them into addresses finds pause, tracks and lead-out where they were ordered
 pub record MakesSheet (o : Order) (r : Made) (before after : List ℕ) : Type 0 where
   pub filled : Fills (cueSheet o) r before after
   pub size : (b : List ℕ) → cueSheet o ≡ pass b → length b ≡ sheetBytes (o .count)
@@ -235,4 +239,4 @@ pub record ReadsSheet (b : List ℕ) (r : SheetRead) : Type 0 where
   pub answer : checked (r .check) (r .sheet) ≡ readSheet b
   pub sheet : r .sheet ≡ valueOr noSheet (readSheet b)
   pub made : (s : Sheet) → readSheet b ≡ pass s → cueSheet (orderFor s) ≡ pass b
-  pub late : (i : ℕ) → leadInMinute ≤ getD b (8 * i + 5) 0 → readSheet b ≡ refuse 14
+  pub late : (i : ℕ) → leadInMinute ≤ minuteIn i b → readSheet b ≡ refuse 14

@@ -13,7 +13,7 @@ use Rattle.basics.proofs.Tests.{false-true, both, known}
 use Rattle.basics.proofs.Bytes.{same-is, same-refl}
 use Rattle.mmc.specs.Order.{noTrack, isNone, isAudio, allNone, validOrder, sameKind, tracksIn, orderKind, mixedOrKept, overlong, allKind, allLong, blocksOf, leastBlocks}
 use Rattle.mmc.specs.Times.{firstAddress, lastAddress, leadInMinute, isTime, framesTo, addressAt, timeFrames, addressAtTime, addressOf}
-use Rattle.mmc.specs.Sheet.{sheetFault, controlOf, cueEntry, leadInEntry, pauseEntry, startEntry, leadOutEntry, trackEntries, allEntries, sheetOf, sheetBytes, framesIn, kindIn, lengthIn, lengthsIn, noLength, tracksBeside, sheetIn, sheetSize, trackFor, orderFor, isSheet, readSheet, cueSheet, lengthOf, sheetFor, timesIn, Below, Rising, Ordered, entryTime, addressesIn, startsFrom}
+use Rattle.mmc.specs.Sheet.{sheetFault, controlOf, cueEntry, leadInEntry, pauseEntry, startEntry, leadOutEntry, trackEntries, allEntries, sheetOf, sheetBytes, framesIn, kindIn, lengthIn, lengthsIn, noLength, tracksBeside, sheetIn, sheetSize, trackFor, orderFor, isSheet, readSheet, cueSheet, lengthOf, sheetFor, timesIn, Below, Rising, Ordered, entryTime, minuteIn, addressesIn, startsFrom}
 use Rattle.mmc.proofs.refusals.Laws.{without-fault}
 use Rattle.mmc.proofs.sheet.Entries.{address, number, has-time, entries-length, Sheeted, sheeted}
 use Rattle.mmc.proofs.times.Signed.{range-time}
@@ -285,37 +285,36 @@ addresses o z b e =
 
 -- ---- no time is of minute 90 or more
 
--- the fifth byte of a later entry
-later : (a b c d e f g h : ℕ) (l : List ℕ) (i : ℕ) → getD (a ∷ b ∷ c ∷ d ∷ e ∷ f ∷ g ∷ h ∷ l) (8 * suc i + 5) 0 ≡ getD l (8 * i + 5) 0
+-- behind an entry of eight bytes stands the next one
+later : (a b c d e f g h : ℕ) (l : List ℕ) (i : ℕ) → minuteIn (suc i) (a ∷ b ∷ c ∷ d ∷ e ∷ f ∷ g ∷ h ∷ l) ≡ minuteIn i l
 later a b c d e f g h l i = let j : 8 * suc i + 5 ≡ suc (suc (suc (suc (suc (suc (suc (suc (8 * i + 5)))))))) = omega arith in rw j refl
 
 minute : (at : ℕ) → at ≤ lastAddress → (at + 150) / 75 / 60 < leadInMinute
 minute at h = omega arith
 
-early-from : (k : Kind) (n at : ℕ) (ts : List Track) (i : ℕ) → at + blocksOf ts ≤ lastAddress → getD (trackEntries k (number n) (address at) ts) (8 * i + 5) 0 < leadInMinute
+early-from : (k : Kind) (n at : ℕ) (ts : List Track) (i : ℕ) → at + blocksOf ts ≤ lastAddress → minuteIn i (trackEntries k (number n) (address at) ts) < leadInMinute
 unfolding trackEntries cueEntry startEntry leadOutEntry blocksOf timeFrames framesTo
 early-from k n at [] zero h = minute at (omega arith)
 early-from k n at [] (suc i) h = rw (later _ _ _ _ _ _ _ _ [] i) (omega arith)
 early-from k n at (t ∷ ts) zero h = minute at (omega arith)
 early-from k n at (t ∷ ts) (suc i) h = rw (later _ _ _ _ _ _ _ _ (trackEntries k (number (n + 1)) (address (at + t .length .0)) ts) i) (early-from k (n + 1) (at + t .length .0) ts i (omega arith))
 
-early : (o : Order) → sheetFault o ≡ 0 → (i : ℕ) → getD (sheetOf o) (8 * i + 5) 0 < leadInMinute
+early : (o : Order) → sheetFault o ≡ 0 → (i : ℕ) → minuteIn i (sheetOf o) < leadInMinute
 unfolding sheetOf leadInEntry pauseEntry cueEntry timeFrames framesTo
 early o f zero = omega arith
 early o f (suc zero) = omega arith
 early o f (suc (suc i)) =
-    let e : getD (sheetOf o) (8 * suc (suc i) + 5) 0 ≡ getD (allEntries o) (8 * i + 5) 0 =
+    let e : minuteIn (suc (suc i)) (sheetOf o) ≡ minuteIn i (allEntries o) =
     later _ _ _ _ _ _ _ _ (pauseEntry (orderKind o) ++ allEntries o) (suc i) ∙ later _ _ _ _ _ _ _ _ (allEntries o) i in
     rw e (early-from (orderKind o) 1 0 (tracksIn o) i (omega (arith, sheeted o f .ends)))
 
-pub late : (b : List ℕ) (i : ℕ) → leadInMinute ≤ getD b (8 * i + 5) 0 → readSheet b ≡ refuse 14
-unfolding readSheet isSheet
+pub late : (b : List ℕ) (i : ℕ) → leadInMinute ≤ minuteIn i b → readSheet b ≡ refuse 14
+unfolding readSheet
 late b i h = known (isSheet b) yes' (λ t. simp t)
   where
     yes' : isSheet b ≡ true → readSheet b ≡ refuse 14
     yes' t =
         let o : Order = orderFor (sheetIn b) in
-        let w = both (sheetSize (length b)) (eqb (sheetFault o) 0 && sameBytes (sheetOf o) b) t in
-        let v = both (eqb (sheetFault o) 0) (sameBytes (sheetOf o) b) (w .1) in
-        let l : getD b (8 * i + 5) 0 < leadInMinute = subst (λ (x : List ℕ). getD x (8 * i + 5) 0 < leadInMinute) (same-is (sheetOf o) b (v .1)) (early o (eqb-true _ _ (v .0)) i) in
+        let w = made-of o b (made b (sheetIn b) (simp t)) in
+        let l : minuteIn i b < leadInMinute = rw (← w .1) (early o (w .0) i) in
         absurd (omega (arith, h, l))
