@@ -9,11 +9,11 @@ use lib.IntN.{ℤ, pos, negsuc, _+ℤ_, _-ℤ_, natAbs, +ℤ-negℤ-cancel, -ℤ
 use lib.Dec.{leb}
 use borrow.Author.Tests.{le-leb, lt-leb, leb-true, leb-false, lt-ltb}
 use lib.Signed.{leZ}
-use Rattle.mmc.specs.Times.{firstAddress, lastAddress, leadInMinute, leadInFrames, inRange, hasTime, framesTo, addressAt, timeFrames, addressAtTime, clock, isTime, framesOf, timeAt, timeOf, addressOf}
+use Rattle.mmc.specs.Times.{firstAddress, lastAddress, allFrames, leadInMinute, leadInFrames, inRange, hasTime, framesTo, addressAt, timeFrames, addressAtTime, clock, isTime, framesOf, timeAt, timeOf, addressOf}
 use Rattle.basics.proofs.Tests.{both, known}
 use Rattle.mmc.specs.Refusals.{pass, refuse}
 use Rattle.basics.proofs.Signed.{less}
-use Rattle.mmc.proofs.times.Signed.{frames, range-time, time-range, in-program, in-lead-in, few-frames, before-90, from-90}
+use Rattle.mmc.proofs.times.Signed.{frames, range-time, time-range, in-program, in-lead-in, few-frames, earlyFrames, before-90, from-90}
 use Rattle.mmc.specs.declared.units.BlockAddress.{BlockAddress}
 use Rattle.mmc.specs.declared.units.FrameCount.{FrameCount}
 use Rattle.mmc.specs.declared.times.Time.{Time}
@@ -31,7 +31,7 @@ count-back f =
     let e : framesOf (clock f) .0 ≡ f .0 = omega arith in
     simp e
 
-clock-is-time : (f : FrameCount) → f .0 < 450000 → isTime (clock f) ≡ true
+clock-is-time : (f : FrameCount) → f .0 < allFrames → isTime (clock f) ≡ true
 unfolding isTime
 clock-is-time f h = all (le-leb (clock f .minute) _ (omega arith)) (le-leb (clock f .second) _ (omega arith)) (le-leb (clock f .frame) _ (omega arith))
   where
@@ -49,7 +49,7 @@ clock-back t h =
     same : (t u : Time) → t .minute ≡ u .minute → t .second ≡ u .second → t .minute + t .second + t .frame ≡ u .minute + u .second + u .frame → t ≡ u
     same t u m s a = let f : t .frame ≡ u .frame = omega (arith, m, s, a) in rw (m, s, f)
 
-frames-small : (t : Time) → isTime t ≡ true → framesOf t .0 < 450000
+frames-small : (t : Time) → isTime t ≡ true → framesOf t .0 < allFrames
 frames-small t h = omega (arith, time-parts t h)
 
 -- in the program area, an address as a count of frames, and back
@@ -63,10 +63,10 @@ unfolding framesTo addressAt
 frames-back f = ap (λ (x : ℤ). record { 0 = natAbs x }) (-ℤ-+ℤ-cancel (pos (f .0)) (pos 150))
 
 -- the count lies before minute 90, or from there on
-early : (f : FrameCount) → f .0 < 405000 → leb leadInMinute (clock f .minute) ≡ false
+early : (f : FrameCount) → f .0 < earlyFrames → leb leadInMinute (clock f .minute) ≡ false
 early f h = lt-leb leadInMinute (clock f .minute) (omega arith)
 
-late : (f : FrameCount) → 405000 ≤ f .0 → leb leadInMinute (clock f .minute) ≡ true
+late : (f : FrameCount) → earlyFrames ≤ f .0 → leb leadInMinute (clock f .minute) ≡ true
 late f h = le-leb leadInMinute (clock f .minute) (omega arith)
 
 -- in the lead-in, the address at a count of frames
@@ -88,7 +88,7 @@ time-back a h =
 abbrev Found : BlockAddress → FrameCount → Type 0
 Found a f = (hasTime a ≡ true) × (timeFrames a ≡ f)
 
-before : (f : FrameCount) → f .0 < 405000 → (inRange (addressAt f) ≡ true) × (leZ firstAddress (addressAt f .0) ≡ true)
+before : (f : FrameCount) → f .0 < earlyFrames → (inRange (addressAt f) ≡ true) × (leZ firstAddress (addressAt f .0) ≡ true)
 unfolding inRange addressAt
 before f h =
     ⊎-elim
@@ -96,10 +96,10 @@ before f h =
     (λ w. (simp (w .1, le-leb (f .0 - 150) lastAddress (omega arith)), simp (w .1)))
     (less (f .0) 149 (decLt (f .0) 150))
 
-in-minutes-0 : (f : FrameCount) → f .0 < 405000 → Found (addressAt f) f
+in-minutes-0 : (f : FrameCount) → f .0 < earlyFrames → Found (addressAt f) f
 in-minutes-0 f h = let w = before f h in (range-time (addressAt f) (w .0), in-program (addressAt f) (w .1) ∙ frames-back f)
 
-in-minutes-90 : (f : FrameCount) → 405000 ≤ f .0 → f .0 < 450000 → Found (leadInAt f) f
+in-minutes-90 : (f : FrameCount) → earlyFrames ≤ f .0 → f .0 < allFrames → Found (leadInAt f) f
 unfolding hasTime timeFrames
 in-minutes-90 f l h =
     let n : ℕ = leadInFrames - suc (f .0) in

@@ -1,5 +1,5 @@
 -- The facts on signed addresses that the proofs cite. Assumes nothing.
-use Prim.Native.Nat.{ℕ, suc, _-_, _<_, _≤_, _^_, _%_}
+use Prim.Native.Nat.{ℕ, suc, _-_, _*_, _<_, _≤_, _^_, _%_}
 use native.Mathlib.Omega.{arith}
 use native.Mathlib.Decide.{decLt}
 use mathlib.Core.Path.{_≡_, refl, sym, ap, _∙_}
@@ -10,7 +10,7 @@ use lib.Signed.{leZ}
 use borrow.Author.Tests.{le-ltb, lt-ltb, leb-true, leb-false, le-leb}
 use mir.Syntax.{w64}
 use mir.Val.{SFits}
-use Rattle.mmc.specs.Times.{lastAddress, firstAddress, leadInAddress, leadInFrames, inRange, hasTime, framesTo, timeFrames}
+use Rattle.mmc.specs.Times.{lastAddress, firstAddress, allFrames, leadInAddress, leadInMinute, leadInFrames, inRange, hasTime, framesTo, timeFrames}
 use Rattle.mmc.specs.Commands.{twos}
 use Rattle.basics.proofs.Tests.{both, known, false-true}
 use Rattle.mmc.specs.declared.units.BlockAddress.{BlockAddress}
@@ -25,7 +25,7 @@ minus : (k n : ℕ) → n < k → subℕ k (suc n) ≡ pos (k - suc n)
 minus k n h = simp (le-ltb k (suc n) h)
 
 -- the frames to an address in range
-pub frames : (a : BlockAddress) → inRange a ≡ true → (a .0 +ℤ pos 150 ≡ pos (framesTo a .0)) × (framesTo a .0 < 450000)
+pub frames : (a : BlockAddress) → inRange a ≡ true → (a .0 +ℤ pos 150 ≡ pos (framesTo a .0)) × (framesTo a .0 < allFrames)
 unfolding inRange framesTo
 frames a h =
     ⊎-elim
@@ -61,7 +61,7 @@ in-program a l = simp l
 ahead : (z : ℤ) (n : ℕ) → z ≡ negsuc n → n < leadInFrames → z +ℤ pos leadInFrames ≡ pos (leadInFrames - suc n)
 ahead z n e h = rw e (minus leadInFrames n h)
 
-pub in-lead-in : (a : BlockAddress) → hasTime a ≡ true → leZ firstAddress (a .0) ≡ false → (a .0 +ℤ pos leadInFrames ≡ pos (timeFrames a .0)) × (timeFrames a .0 < 450000)
+pub in-lead-in : (a : BlockAddress) → hasTime a ≡ true → leZ firstAddress (a .0) ≡ false → (a .0 +ℤ pos leadInFrames ≡ pos (timeFrames a .0)) × (timeFrames a .0 < allFrames)
 unfolding hasTime timeFrames
 in-lead-in a h l =
     let w = below (a .0) h l in
@@ -70,14 +70,17 @@ in-lead-in a h l =
     (e ∙ ap pos (sym f), omega arith)
 
 -- an address with a time has it before minute 100
-pub few-frames : (a : BlockAddress) → hasTime a ≡ true → timeFrames a .0 < 450000
+pub few-frames : (a : BlockAddress) → hasTime a ≡ true → timeFrames a .0 < allFrames
 few-frames a h =
     known (leZ firstAddress (a .0))
     (λ l. rw (in-program a l) (omega (arith, frames a (time-range a h l) .1)))
     (λ l. in-lead-in a h l .1)
 
 -- the program area ends before minute 90, and the lead-in begins there
-pub before-90 : (a : BlockAddress) → inRange a ≡ true → framesTo a .0 < 405000
+abbrev pub earlyFrames : ℕ
+earlyFrames = leadInMinute * 60 * 75
+
+pub before-90 : (a : BlockAddress) → inRange a ≡ true → framesTo a .0 < earlyFrames
 unfolding inRange framesTo
 before-90 a h =
     ⊎-elim
@@ -85,7 +88,7 @@ before-90 a h =
     (λ w. rw (w .1, minus 150 (w .0) (omega arith)) (omega arith))
     (sorted (a .0) h)
 
-pub from-90 : (a : BlockAddress) → hasTime a ≡ true → leZ firstAddress (a .0) ≡ false → 405000 ≤ timeFrames a .0
+pub from-90 : (a : BlockAddress) → hasTime a ≡ true → leZ firstAddress (a .0) ≡ false → earlyFrames ≤ timeFrames a .0
 unfolding hasTime timeFrames
 from-90 a h l =
     let w = below (a .0) h l in

@@ -5,7 +5,7 @@ use lib.IntN.{ℤ, pos, _+ℤ_, natAbs}
 use mir.Syntax.{w64}
 use mir.Val.{toZ, ofZ}
 use borrow.Author.Needs.{needs}
-use Rattle.mmc.specs.Times.{framesTo}
+use Rattle.mmc.specs.Times.{allFrames, framesTo}
 use Rattle.basics.proofs.Signed.{sum-fits, sum-is}
 use Rattle.mmc.proofs.times.Signed.{frames}
 use Rattle.mmc.specs.declared.units.BlockAddress.{BlockAddress}
@@ -15,7 +15,7 @@ use Rattle.mmc.proofs.times.frames_to.Tie as tie
 abbrev A : tie.After-struct-told → BlockAddress
 A c = c .before .before .args .a
 
-here : (c : tie.After-struct-told) → (A c .0 +ℤ pos 150 ≡ pos (framesTo (A c) .0)) × (framesTo (A c) .0 < 450000)
+here : (c : tie.After-struct-told) → (A c .0 +ℤ pos 150 ≡ pos (framesTo (A c) .0)) × (framesTo (A c) .0 < allFrames)
 here c = frames (A c) (c .before .before .pre)
 
 back : (c : tie.After-struct-told) → toZ w64 (ofZ w64 (toZ w64 (ofZ w64 (A c .0)) +ℤ pos 150)) ≡ pos (framesTo (A c) .0)

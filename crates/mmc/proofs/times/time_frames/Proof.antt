@@ -8,7 +8,7 @@ use mir.Syntax.{w64}
 use mir.Val.{SFits, toZ, ofZ}
 use mir.Facts.{toZ-ofZ}
 use borrow.Author.Needs.{needs}
-use Rattle.mmc.specs.Times.{firstAddress, leadInFrames, timeFrames}
+use Rattle.mmc.specs.Times.{firstAddress, allFrames, leadInFrames, timeFrames}
 use Rattle.basics.proofs.Signed.{sum-fits, sum-is}
 use Rattle.mmc.proofs.times.Signed.{time-range, in-program, in-lead-in}
 use Rattle.mmc.specs.declared.units.BlockAddress.{BlockAddress}
@@ -29,7 +29,7 @@ frames-to-requires : tie.Need-frames-to-requires
 frames-to-requires c κs = time-range _ (c .before .before .pre) (above c)
 
 -- lower: the lead-in
-here : (c : tie.Else1) → (A c .0 +ℤ pos leadInFrames ≡ pos (timeFrames (A c) .0)) × (timeFrames (A c) .0 < 450000)
+here : (c : tie.Else1) → (A c .0 +ℤ pos leadInFrames ≡ pos (timeFrames (A c) .0)) × (timeFrames (A c) .0 < allFrames)
 here c = in-lead-in (A c) (c .before .before .pre) (rw (toZ-ofZ (fits (c .before .before))) at (c .if1 .left))
 
 back : (c : tie.Else1) → toZ w64 (ofZ w64 (toZ w64 (ofZ w64 (A c .0)) +ℤ pos leadInFrames)) ≡ pos (timeFrames (A c) .0)
