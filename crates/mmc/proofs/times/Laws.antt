@@ -13,7 +13,7 @@ use Rattle.mmc.specs.Times.{firstAddress, lastAddress, allFrames, leadIn
 use Rattle.basics.proofs.Tests.{both, known}
 use Rattle.mmc.specs.Refusals.{pass, refuse}
 use Rattle.basics.proofs.Signed.{less}
-use Rattle.mmc.proofs.times.Signed.{frames, range-time, time-range, in-program, in-lead-in, few-frames, earlyFrames, before-90, from-90}
+use Rattle.mmc.proofs.times.Signed.{frames, range-time, time-range, in-program, in-lead-in, few-frames, deepest, earlyFrames, before-90, from-90}
 use Rattle.mmc.specs.declared.units.BlockAddress.{BlockAddress}
 use Rattle.mmc.specs.declared.units.FrameCount.{FrameCount}
 use Rattle.mmc.specs.declared.times.Time.{Time}
@@ -106,7 +106,7 @@ in-minutes-90 f l h =
     let e : pos (f .0) -ℤ pos leadInFrames ≡ negsuc n = simp (lt-ltb (f .0) leadInFrames (omega arith)) in
     let s : pos (f .0) -ℤ pos leadInFrames +ℤ pos leadInFrames ≡ pos (f .0) = -ℤ-+ℤ-cancel (pos (f .0)) (pos leadInFrames) in
     let q : leZ firstAddress (pos (f .0) -ℤ pos leadInFrames) ≡ false = rw e (lt-leb n 149 (omega arith)) in
-    (rw e (simp (le-leb n 45149 (omega arith))), simp q (ap (λ (x : ℤ). record { 0 = natAbs x }) s))
+    (rw e (simp (le-leb n deepest (omega arith))), simp q (ap (λ (x : ℤ). record { 0 = natAbs x }) s))
 
 found : (t : Time) → isTime t ≡ true → Found (addressAtTime t) (framesOf t)
 unfolding addressAtTime

@@ -33,13 +33,17 @@ frames a h =
     (λ w. rw (w .1) (let e = minus 150 (w .0) (omega arith) in (e ∙ ap (λ (x : ℤ). pos (natAbs x)) (sym e), rw e (omega arith))))
     (sorted (a .0) h)
 
+-- how far below -1 the lead-in begins
+abbrev pub deepest : ℕ
+deepest = natAbs leadInAddress - 1
+
 -- the program area has times
 pub range-time : (a : BlockAddress) → inRange a ≡ true → hasTime a ≡ true
 unfolding inRange hasTime
 range-time a h =
     ⊎-elim
     (λ w. rw (w .1) (le-leb (w .0) lastAddress (w .2)))
-    (λ w. rw (w .1) (simp (le-leb (w .0) 45149 (omega arith))))
+    (λ w. rw (w .1) (simp (le-leb (w .0) deepest (omega arith))))
     (sorted (a .0) h)
 
 -- an address that has a time lies there, where it is no lower than -150
@@ -48,9 +52,9 @@ unfolding inRange hasTime
 time-range a h l = simp (l, both (leZ leadInAddress (a .0)) (leZ (a .0) (pos lastAddress)) h .1)
 
 -- and else in the lead-in, -45,150 to -151
-below : (z : ℤ) → leZ leadInAddress z && leZ z (pos lastAddress) ≡ true → leZ firstAddress z ≡ false → (n : ℕ) × (z ≡ negsuc n) × (149 < n) × (n ≤ 45149)
+below : (z : ℤ) → leZ leadInAddress z && leZ z (pos lastAddress) ≡ true → leZ firstAddress z ≡ false → (n : ℕ) × (z ≡ negsuc n) × (149 < n) × (n ≤ deepest)
 below (pos n) h l = absurd (false-true (sym l))
-below (negsuc n) h l = (n, refl, leb-false n 149 l, leb-true n 45149 (both (leZ leadInAddress (negsuc n)) true h .0))
+below (negsuc n) h l = (n, refl, leb-false n 149 l, leb-true n deepest (both (leZ leadInAddress (negsuc n)) true h .0))
 
 -- in the program area a time is the old sum, of minutes 0 to 89
 pub in-program : (a : BlockAddress) → leZ firstAddress (a .0) ≡ true → timeFrames a ≡ framesTo a
