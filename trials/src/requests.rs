@@ -4,9 +4,9 @@
 use second::blocks::{order_block, reply_block, seal, Reply, Status, BLOCK, MOST_DATA};
 use second::hex;
 use second::rng::Rng;
-use second::units::{Flags, Kind, Method, Order, Track, MOST_TRACKS};
+use second::units::{Flags, Kind, Method, Order, Track, LAST_ADDRESS, MOST_TRACKS};
 
-const LIMIT: u32 = 404_849;
+const LIMIT: u32 = LAST_ADDRESS as u32;
 /// The limit of document 01, before Ask 3 of document 02.
 const OLD_LIMIT: u32 = 449_849;
 const KINDS: [Kind; 2] = [Kind::Audio, Kind::Data];

@@ -4,7 +4,7 @@ use Rattle.basics.specs.Bytes.{bytes32, be32, sumOf, allZero}
 use Rattle.mmc.specs.Block.{checkSum, sealed, blockFault, blockRead}
 use Rattle.mmc.specs.Order.{allNone, validOrder, allKind, allLong, blocksOf, mixedOrKept, overlong}
 use Rattle.mmc.specs.OrderBlock.{methodOf, keepOf, protectOf, immedOf, eraseOf, row, rows, orderBody, orderBytes, orderBlock, trackOf, tracksOf, kindsOk, fieldsOf, headOk, orderOk, readOrder}
-use Rattle.mmc.specs.Times.{inRange, hasTime, framesTo, timeFrames, timeOf}
+use Rattle.mmc.specs.Times.{inRange, hasTime, framesTo, addressAt, isTime, timeFrames, addressAtTime, timeOf, addressOf}
 use Rattle.mmc.specs.Page.{page, pageFault}
 use Rattle.mmc.specs.Sheet.{sheetFault, cueEntry, leadInEntry, pauseEntry, startEntry, leadOutEntry, trackEntries, sheetOf, cueSheet}
 use Rattle.mmc.specs.Commands.{writeRange, writeBytes, writeCommand, closeTrackSession}
@@ -25,11 +25,12 @@ layout-sheets =
     }
 
 pub layout-cases : LayoutCases
-unfolding bytes32 be32 sumOf allZero checkSum sealed blockFault blockRead allNone validOrder methodOf keepOf protectOf immedOf eraseOf trackOf tracksOf kindsOk fieldsOf headOk orderOk readOrder closeTrackSession allKind allLong blocksOf mixedOrKept overlong sheetFault pageFault inRange hasTime framesTo timeFrames timeOf writeRange writeCommand
+unfolding bytes32 be32 sumOf allZero checkSum sealed blockFault blockRead allNone validOrder methodOf keepOf protectOf immedOf eraseOf trackOf tracksOf kindsOk fieldsOf headOk orderOk readOrder closeTrackSession allKind allLong blocksOf mixedOrKept overlong sheetFault pageFault inRange hasTime framesTo addressAt isTime timeFrames addressAtTime timeOf addressOf writeRange writeBytes writeCommand
 layout-cases =
     record {
       mixed-or-kept = refl;
       time-ends = refl;
+      address-ends = refl;
       write-ends = refl;
       immed = refl;
       erase = refl;

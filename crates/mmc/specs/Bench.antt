@@ -10,7 +10,7 @@ use Rattle.mmc.specs.Refusals.{Outcome, pass, refuse}
 use Rattle.mmc.specs.Block.{sealed}
 use Rattle.mmc.specs.Order.{noTrack}
 use Rattle.mmc.specs.OrderBlock.{orderBytes, orderBlock, readOrder}
-use Rattle.mmc.specs.Times.{timeOf}
+use Rattle.mmc.specs.Times.{timeOf, addressOf}
 use Rattle.mmc.specs.Page.{page, pageFault}
 use Rattle.mmc.specs.Sheet.{sheetFault, cueSheet}
 use Rattle.mmc.specs.Commands.{writeCommand, synchronizeCache, closeTrackSession, testUnitReady, requestSense, blank}
@@ -60,9 +60,9 @@ address z = record { 0 = z }
 abbrev pub time : ℕ → ℕ → ℕ → Time
 time m s f = record { minute = m; second = s; frame = f }
 
--- a WRITE of one block
-abbrev pub writeOne : BlockAddress → Outcome (List ℕ)
-writeOne a = writeCommand a (record { 0 = 1 })
+-- a WRITE of sixteen blocks
+abbrev pub writeMost : BlockAddress → Outcome (List ℕ)
+writeMost a = writeCommand a (record { 0 = 16 })
 
 -- ---- the sheets marked *
 
@@ -130,9 +130,13 @@ pub record LayoutCases : Type 0 where
       map sheetFault (mixed Sao false ∷ alike Sao true ∷ alike Sao false ∷ alike Tao false ∷ [])
       ++ map pageFault (mixed Sao false ∷ alike Sao true ∷ alike Sao false ∷ alike Tao true ∷ [])
       ≡ (8 ∷ 8 ∷ 0 ∷ 3 ∷ []) ++ (0 ∷ 8 ∷ 0 ∷ 0 ∷ [])
-  -- document 02: times "run from -45,150 to 404,849", 90:00:00 to 89:59:74; "A WRITE still starts no lower than -150", and no higher
+  -- document 02: addresses "run from -45,150 to 404,849, times convert both ways"; "A WRITE still starts no lower than -150", and no higher
+  -- than 404,849, however many blocks it takes
   pub time-ends : map timeOf (address (negsuc 45149) ∷ address (pos 404850) ∷ []) ≡ pass (time 90 0 0) ∷ refuse 15 ∷ []
-  pub write-ends : map writeOne (address (negsuc 150) ∷ address (pos 404850) ∷ []) ≡ refuse 15 ∷ refuse 15 ∷ []
+  pub address-ends : map addressOf (time 89 59 74 ∷ time 100 0 0 ∷ []) ≡ pass (address (pos 404849)) ∷ refuse 15 ∷ []
+  pub write-ends :
+      map writeMost (address (negsuc 150) ∷ address (pos 404849) ∷ address (pos 404850) ∷ [])
+      ≡ refuse 15 ∷ pass (0x2A ∷ 0x00 ∷ 0x00 ∷ 0x06 ∷ 0x2D ∷ 0x71 ∷ 0x00 ∷ 0x00 ∷ 0x10 ∷ 0x00 ∷ []) ∷ refuse 15 ∷ []
   -- document 02: flag bit 2 is Immed, bit 3 erase; flags 15 pass, 16: 3
   pub immed : readOrder (flagsBlock 4) ≡ pass (flagsOrder false false true false)
   pub erase : readOrder (flagsBlock 8) ≡ pass (flagsOrder false false false true)

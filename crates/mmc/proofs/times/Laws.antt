@@ -11,7 +11,7 @@ use borrow.Author.Tests.{le-leb, lt-leb, leb-true, leb-false, lt-ltb}
 use lib.Signed.{leZ}
 use Rattle.mmc.specs.Times.{firstAddress, lastAddress, allFrames, leadInMinute, leadInFrames, inRange, hasTime, framesTo, addressAt, timeFrames, addressAtTime, clock, isTime, framesOf, timeAt, timeOf, addressOf}
 use Rattle.basics.proofs.Tests.{both, known}
-use Rattle.mmc.specs.Refusals.{pass, refuse}
+use Rattle.mmc.specs.Refusals.{pass}
 use Rattle.basics.proofs.Signed.{less}
 use Rattle.mmc.proofs.times.Signed.{frames, range-time, time-range, in-program, in-lead-in, few-frames, deepest, earlyFrames, before-90, from-90}
 use Rattle.mmc.specs.declared.units.BlockAddress.{BlockAddress}
@@ -130,10 +130,6 @@ back : (t : Time) → isTime t ≡ true → (a : BlockAddress) × (addressOf t �
 unfolding timeOf addressOf
 back t h = let w = found t h in (addressAtTime t, simp h, simp (w .0, w .1, clock-back t h))
 
-no-address : (t : Time) → isTime t ≡ false → addressOf t ≡ refuse 15
-unfolding addressOf
-no-address t h = simp h
-
 -- both ways: t is the time of a just where a is the address of t
 pub time-address : (a : BlockAddress) (t : Time) → timeOf a ≡ pass t → addressOf t ≡ pass a
 unfolding timeOf
@@ -143,7 +139,8 @@ time-address a t e =
     (λ h. let r = simp h at e in cc)
 
 pub address-time : (a : BlockAddress) (t : Time) → addressOf t ≡ pass a → timeOf a ≡ pass t
+unfolding addressOf
 address-time a t e =
     known (isTime t)
     (λ h. let w = back t h in let x : a ≡ w .0 = cc in rw x (w .2))
-    (λ h. let r : addressOf t ≡ refuse 15 = no-address t h in cc)
+    (λ h. let r = simp h at e in cc)

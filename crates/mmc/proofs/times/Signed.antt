@@ -80,10 +80,11 @@ few-frames a h =
     (λ l. rw (in-program a l) (omega (arith, frames a (time-range a h l) .1)))
     (λ l. in-lead-in a h l .1)
 
--- the program area ends before minute 90, and the lead-in begins there
+-- the frames before minute 90
 abbrev pub earlyFrames : ℕ
 earlyFrames = leadInMinute * 60 * 75
 
+-- the program area ends before minute 90, and the lead-in begins there
 pub before-90 : (a : BlockAddress) → inRange a ≡ true → framesTo a .0 < earlyFrames
 unfolding inRange framesTo
 before-90 a h =
