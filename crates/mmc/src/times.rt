@@ -1,7 +1,7 @@
 // Block addresses as minute, second and frame, and back: minutes 0 to 89 are the program area, minutes 90 to 99 the lead-in before it.
 ghost use mathlib.Core.Path.{_≡_};
 ghost use mathlib.Core.Bool.{true};
-ghost use Prim.Native.Nat.{_<_};
+ghost use Prim.Native.Nat.{_+_, _*_, _/_, _%_, _<_, _≤_};
 ghost use Rattle.mmc.specs.Times.{inRange, hasTime, framesTo, addressAt, timeFrames, addressAtTime, isTime, clock, timeAt, framesOf, allFrames, GivesTime, GivesAddress};
 use crate::refusals::Refusal;
 use crate::units::BlockAddress;
@@ -84,16 +84,81 @@ fn time_frames(a: BlockAddress) -> FrameCount
     }
 }
 
+// Three times a number, and five times one, by adding: the processor has no divide, and may have no multiply.
+fn three(x: u32) -> u32
+    requires { ⌜ x < 1048576 ⌝ }
+    ensures { λ r. ⌜ r ≡ 3 * x ⌝ }
+{
+    x + x + x
+}
+
+fn five(x: u32) -> u32
+    requires { ⌜ x < 1048576 ⌝ }
+    ensures { λ r. ⌜ r ≡ 5 * x ⌝ }
+{
+    x + x + x + x + x
+}
+
+// A count of frames in 512ths of a second, rounded up within the frame: 13981 / 2048 of it, as 31 / 32 of 7 + 3 / 64.
+fn seconds_of(n: u32) -> u32
+    requires { ⌜ n < allFrames ⌝ }
+    ensures { λ r. ⌜ (512 * n + 7 ≤ 75 * r) × (75 * r < 512 * n + 512) ⌝ }
+{
+    let t = three(n);
+    let x = n + t + t + (t >> 6) + 5;
+    x - (x >> 5)
+}
+
+// A count of seconds in 256ths of a minute, rounded up within the second: 4369 / 1024 of it, as 257 / 256 of 4 + 1 / 4.
+fn minutes_of(s: u32) -> u32
+    requires { ⌜ s < 6000 ⌝ }
+    ensures { λ r. ⌜ (256 * s ≤ 60 * r) × (60 * r < 256 * s + 256) ⌝ }
+{
+    let x = s + s + s + s + (s >> 2);
+    x + (x >> 8) + 3
+}
+
+// What is past the last whole second in 512ths, and past the last whole minute in 256ths.
+fn past_second(x: u32) -> u32
+    ensures { λ r. ⌜ r ≡ x % 512 ⌝ }
+{
+    x - ((x >> 9) << 9)
+}
+
+fn past_minute(x: u32) -> u32
+    ensures { λ r. ⌜ r ≡ x % 256 ⌝ }
+{
+    x - ((x >> 8) << 8)
+}
+
+// The frame at so many 512ths of a second: 75 / 512 of them, as 1 / 64 of 9 + 3 / 8.
+fn frame_at(part: u32) -> u8
+    requires { ⌜ part < 512 ⌝ }
+    ensures { λ r. ⌜ r ≡ (9 * part + 3 * part / 8) / 64 ⌝ }
+{
+    let t = three(part);
+    ((t + t + t + (t >> 3)) >> 6) as u8
+}
+
+// The second at so many 256ths of a minute: 60 / 256 of them, as 15 / 64.
+fn second_at(part: u32) -> u8
+    requires { ⌜ part < 256 ⌝ }
+    ensures { λ r. ⌜ r ≡ 60 * part / 256 ⌝ }
+{
+    (three(five(part)) >> 6) as u8
+}
+
 // A count of frames as a time.
 fn clock_of(f: FrameCount) -> Time
     requires { ⌜ f .0 < allFrames ⌝ }
     ensures { λ r. ⌜ r ≡ clock f ⌝ }
 {
-    let s = f.0 / 75;
+    let s = seconds_of(f.0);
+    let m = minutes_of(s >> 9);
     Time {
-        minute: (s / 60) as u8,
-        second: (s % 60) as u8,
-        frame: (f.0 % 75) as u8,
+        minute: (m >> 8) as u8,
+        second: second_at(past_minute(m)),
+        frame: frame_at(past_second(s)),
     }
 }
 
@@ -112,11 +177,20 @@ fn is_time(t: Time) -> bool
     t.minute <= 99 && (t.second <= 59 && t.frame <= 74)
 }
 
-// A time as a count of frames.
+// Minutes and seconds in fifths of a second: those of minutes of 64 seconds, less those of 4 seconds a minute.
+fn fifths_of(minute: u8, second: u8) -> u32
+    ensures { λ r. ⌜ r ≡ 5 * (minute * 60 + second) ⌝ }
+{
+    let m = minute as u32;
+    let q = m + m + m + m;
+    five((q << 4) + (second as u32)) - five(q)
+}
+
+// A time as a count of frames, 15 to a fifth of a second.
 pub(crate) fn frames_of(t: Time) -> FrameCount
     ensures { λ r. ⌜ r ≡ framesOf t ⌝ }
 {
-    FrameCount(((t.minute as u32) * 60 + (t.second as u32)) * 75 + (t.frame as u32))
+    FrameCount(three(five(fifths_of(t.minute, t.second))) + (t.frame as u32))
 }
 
 // The address of a time.
