@@ -84,7 +84,7 @@ fn time_frames(a: BlockAddress) -> FrameCount
     }
 }
 
-// Three times a number, and five times one, by adding: the processor has no divide, and may have no multiply.
+// Three times a number. This conversion adds, subtracts, compares and shifts, and has no product and no division: the processor has none.
 fn three(x: u32) -> u32
     requires { ⌜ x < 1048576 ⌝ }
     ensures { λ r. ⌜ r ≡ 3 * x ⌝ }
@@ -92,6 +92,7 @@ fn three(x: u32) -> u32
     x + x + x
 }
 
+// Five times a number.
 fn five(x: u32) -> u32
     requires { ⌜ x < 1048576 ⌝ }
     ensures { λ r. ⌜ r ≡ 5 * x ⌝ }
@@ -99,53 +100,86 @@ fn five(x: u32) -> u32
     x + x + x + x + x
 }
 
-// A count of frames in 512ths of a second, rounded up within the frame: 13981 / 2048 of it, as 31 / 32 of 7 + 3 / 64.
-fn seconds_of(n: u32) -> u32
+// A count of frames in 512ths of a second, which lie within the last frame: 13981 / 2048 of it, as 31 / 32 of 7 + 3 / 64, rounded up.
+fn in_512ths(n: u32) -> u32
     requires { ⌜ n < allFrames ⌝ }
-    ensures { λ r. ⌜ (512 * n + 7 ≤ 75 * r) × (75 * r < 512 * n + 512) ⌝ }
+    ensures { λ r. ⌜ (512 * n + 7 ≤ 75 * r) × (75 * r < 512 * n + 512) × (r / 512 ≡ n / 75) ⌝ }
 {
     let t = three(n);
     let x = n + t + t + (t >> 6) + 5;
     x - (x >> 5)
 }
 
-// A count of seconds in 256ths of a minute, rounded up within the second: 4369 / 1024 of it, as 257 / 256 of 4 + 1 / 4.
-fn minutes_of(s: u32) -> u32
-    requires { ⌜ s < 6000 ⌝ }
-    ensures { λ r. ⌜ (256 * s ≤ 60 * r) × (60 * r < 256 * s + 256) ⌝ }
+// A count of seconds in 256ths of a minute, which lie within the last second: 4369 / 1024 of it, as 257 / 256 of 4 + 1 / 4, rounded up.
+fn in_256ths(n: u32) -> u32
+    requires { ⌜ n < 6000 ⌝ }
+    ensures { λ r. ⌜ (256 * n ≤ 60 * r) × (60 * r < 256 * n + 256) × (r / 256 ≡ n / 60) ⌝ }
 {
-    let x = s + s + s + s + (s >> 2);
+    let x = n + n + n + n + (n >> 2);
     x + (x >> 8) + 3
 }
 
-// What is past the last whole second in 512ths, and past the last whole minute in 256ths.
-fn past_second(x: u32) -> u32
+// 512ths past the last whole one.
+fn past_512ths(x: u32) -> u32
     ensures { λ r. ⌜ r ≡ x % 512 ⌝ }
 {
     x - ((x >> 9) << 9)
 }
 
-fn past_minute(x: u32) -> u32
+// 256ths past the last whole one.
+fn past_256ths(x: u32) -> u32
     ensures { λ r. ⌜ r ≡ x % 256 ⌝ }
 {
     x - ((x >> 8) << 8)
 }
 
 // The frame at so many 512ths of a second: 75 / 512 of them, as 1 / 64 of 9 + 3 / 8.
-fn frame_at(part: u32) -> u8
+fn frame_at(part: u32) -> u32
     requires { ⌜ part < 512 ⌝ }
     ensures { λ r. ⌜ r ≡ (9 * part + 3 * part / 8) / 64 ⌝ }
 {
     let t = three(part);
-    ((t + t + t + (t >> 3)) >> 6) as u8
+    (t + t + t + (t >> 3)) >> 6
 }
 
 // The second at so many 256ths of a minute: 60 / 256 of them, as 15 / 64.
-fn second_at(part: u32) -> u8
+fn second_at(part: u32) -> u32
     requires { ⌜ part < 256 ⌝ }
     ensures { λ r. ⌜ r ≡ 60 * part / 256 ⌝ }
 {
-    (three(five(part)) >> 6) as u8
+    three(five(part)) >> 6
+}
+
+// The seconds in a count of frames.
+fn seconds_of(n: u32) -> u32
+    requires { ⌜ n < allFrames ⌝ }
+    ensures { λ r. ⌜ r ≡ n / 75 ⌝ }
+{
+    in_512ths(n) >> 9
+}
+
+// The frames past the last whole second.
+fn frame_of(n: u32) -> u8
+    requires { ⌜ n < allFrames ⌝ }
+    ensures { λ r. ⌜ r ≡ n % 75 ⌝ }
+{
+    frame_at(past_512ths(in_512ths(n))) as u8
+}
+
+// The minutes in a count of seconds.
+fn minute_of(n: u32) -> u8
+    requires { ⌜ n < 6000 ⌝ }
+    ensures { λ r. ⌜ r ≡ n / 60 ⌝ }
+{
+    (in_256ths(n) >> 8) as u8
+}
+
+// The seconds past the last whole minute.
+fn second_of(n: u32) -> u8
+    requires { ⌜ n < 6000 ⌝ }
+    ensures { λ r. ⌜ r ≡ n % 60 ⌝ }
+{
+    second_at(past_256ths(in_256ths(n))) as u8
 }
 
 // A count of frames as a time.
@@ -154,11 +188,10 @@ fn clock_of(f: FrameCount) -> Time
     ensures { λ r. ⌜ r ≡ clock f ⌝ }
 {
     let s = seconds_of(f.0);
-    let m = minutes_of(s >> 9);
     Time {
-        minute: (m >> 8) as u8,
-        second: second_at(past_minute(m)),
-        frame: frame_at(past_second(s)),
+        minute: minute_of(s),
+        second: second_of(s),
+        frame: frame_of(f.0),
     }
 }
 
@@ -186,11 +219,18 @@ fn fifths_of(minute: u8, second: u8) -> u32
     five((q << 4) + (second as u32)) - five(q)
 }
 
-// A time as a count of frames, 15 to a fifth of a second.
+// Minutes, seconds and frames in frames, 15 to a fifth of a second.
+fn in_frames(minute: u8, second: u8, frame: u8) -> u32
+    ensures { λ r. ⌜ r ≡ (minute * 60 + second) * 75 + frame ⌝ }
+{
+    three(five(fifths_of(minute, second))) + (frame as u32)
+}
+
+// A time as a count of frames.
 pub(crate) fn frames_of(t: Time) -> FrameCount
     ensures { λ r. ⌜ r ≡ framesOf t ⌝ }
 {
-    FrameCount(three(five(fifths_of(t.minute, t.second))) + (t.frame as u32))
+    FrameCount(in_frames(t.minute, t.second, t.frame))
 }
 
 // The address of a time.
