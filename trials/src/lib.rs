@@ -8,6 +8,7 @@
 
 pub mod cdtext_corners;
 pub mod cdtext_random;
+pub mod conversion;
 #[rustfmt::skip] // a table with one job a line
 pub mod corners;
 pub mod drive;

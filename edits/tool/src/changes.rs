@@ -79,9 +79,10 @@ fn owner(file: &str, text: &str, at: usize) -> Option<Body> {
     users.all(|i| body_at(file, text, i).as_ref() == Some(&body)).then_some(body)
 }
 
-fn name(line: &str) -> Option<&str> {
+/// The name of the function that a line begins.
+pub fn name(line: &str) -> Option<&str> {
     let bare = line.trim_start();
-    let rest = ["fn ", "pub fn ", "pub(crate) fn "].iter().find_map(|p| bare.strip_prefix(p))?;
+    let rest = ["fn ", "pub fn ", "pub(crate) fn ", "pub extern \"C\" fn "].iter().find_map(|p| bare.strip_prefix(p))?;
     rest.split('(').next()
 }
 

@@ -1,6 +1,7 @@
 //! The laws: every field of every record that a contract cites stands in `edits/laws`, with an edit that only it refuses, or with the
 //! reason why there is none. So a law that is deleted, or added without an edit, fails the run.
 
+use crate::changes::name;
 use crate::edit::Edit;
 use crate::judge::Failure;
 use std::collections::{BTreeMap, BTreeSet};
@@ -122,9 +123,8 @@ fn clauses_in(text: &str) -> Vec<(String, String)> {
     let mut found = Vec::new();
     for line in text.lines() {
         let bare = line.trim_start();
-        let head = ["fn ", "pub fn ", "pub(crate) fn "].iter().find_map(|p| bare.strip_prefix(p));
-        if let Some(rest) = head {
-            function = rest.split('(').next().unwrap_or_default().to_string();
+        if let Some(name) = name(line) {
+            function = name.to_string();
         } else if bare.starts_with("ensures") {
             found.push((function.clone(), bare.to_string()));
         }

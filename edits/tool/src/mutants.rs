@@ -1,6 +1,6 @@
 //! Wrong programs made by the tool: one number, comparison, operator or truth value of the code changed.
 
-use crate::changes::Changes;
+use crate::changes::{name, Changes};
 use std::fs;
 use std::path::Path;
 
@@ -97,9 +97,6 @@ fn is_code(line: &str, specs: bool) -> bool {
         "pub mod",
         "requires",
         "ensures",
-        "fn ",
-        "pub fn",
-        "pub(crate) fn",
         "struct",
         "pub struct",
         "pub(crate) struct",
@@ -108,7 +105,7 @@ fn is_code(line: &str, specs: bool) -> bool {
         "impl",
         "#[",
     ];
-    !bare.is_empty() && !line.contains('⌜') && !skipped.iter().any(|s| bare.starts_with(s))
+    !bare.is_empty() && !line.contains('⌜') && name(line).is_none() && !skipped.iter().any(|s| bare.starts_with(s))
 }
 
 /// Whether a line begins an item: mutants are drawn over items by turns, so that no long table or function takes the whole sample.
@@ -116,7 +113,7 @@ fn begins_item(line: &str, specs: bool) -> bool {
     let bare = line.trim_start();
     match specs {
         true => line.contains(" : ") && !line.starts_with(' '),
-        false => ["fn ", "pub fn", "pub(crate) fn", "const ", "pub const", "pub(crate) const"].iter().any(|s| bare.starts_with(s)),
+        false => name(line).is_some() || ["const ", "pub const", "pub(crate) const"].iter().any(|s| bare.starts_with(s)),
     }
 }
 
@@ -241,7 +238,7 @@ mod tests {
 
     #[test]
     fn only_code() {
-        for line in ["// 1 < 2", "    ensures { λ r. ⌜ r ≡ 1 ⌝ }", "pub fn f(a: [u8; 10])", "", "use a::b;"] {
+        for line in ["// 1 < 2", "    ensures { λ r. ⌜ r ≡ 1 ⌝ }", "pub fn f(a: [u8; 10])", "pub extern \"C\" fn f(a: [u8; 10])", "", "use a::b;"] {
             assert!(!is_code(line, false), "{line}");
         }
         assert!(is_code("    a + 1", false));
