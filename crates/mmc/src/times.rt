@@ -1,4 +1,5 @@
 // Block addresses as minute, second and frame, and back: minutes 0 to 89 are the program area, minutes 90 to 99 the lead-in before it.
+// The conversion adds, subtracts, compares and shifts, and does nothing else: the processor has no divide, and may have no multiply.
 ghost use mathlib.Core.Path.{_≡_};
 ghost use mathlib.Core.Bool.{true};
 ghost use Prim.Native.Nat.{_+_, _*_, _/_, _%_, _<_, _≤_};
@@ -84,7 +85,7 @@ fn time_frames(a: BlockAddress) -> FrameCount
     }
 }
 
-// Three times a number. This conversion adds, subtracts, compares and shifts, and has no product and no division: the processor has none.
+// Three times a number.
 fn three(x: u32) -> u32
     requires { ⌜ x < 1048576 ⌝ }
     ensures { λ r. ⌜ r ≡ 3 * x ⌝ }
@@ -100,7 +101,8 @@ fn five(x: u32) -> u32
     x + x + x + x + x
 }
 
-// A count of frames in 512ths of a second, which lie within the last frame: 13981 / 2048 of it, as 31 / 32 of 7 + 3 / 64, rounded up.
+// A count of frames in 512ths of a second: 13981 / 2048 of it, as 31 / 32 of 7 + 3 / 64. With 5 more, for what the shifts drop, it lies past
+// the frame's start and before its end.
 fn in_512ths(n: u32) -> u32
     requires { ⌜ n < allFrames ⌝ }
     ensures { λ r. ⌜ (512 * n + 7 ≤ 75 * r) × (75 * r < 512 * n + 512) × (r / 512 ≡ n / 75) ⌝ }
@@ -110,7 +112,7 @@ fn in_512ths(n: u32) -> u32
     x - (x >> 5)
 }
 
-// A count of seconds in 256ths of a minute, which lie within the last second: 4369 / 1024 of it, as 257 / 256 of 4 + 1 / 4, rounded up.
+// A count of seconds in 256ths of a minute: 4369 / 1024 of it, as 257 / 256 of 4 + 1 / 4. With 3 more it lies within the second likewise.
 fn in_256ths(n: u32) -> u32
     requires { ⌜ n < 6000 ⌝ }
     ensures { λ r. ⌜ (256 * n ≤ 60 * r) × (60 * r < 256 * n + 256) × (r / 256 ≡ n / 60) ⌝ }
@@ -119,14 +121,14 @@ fn in_256ths(n: u32) -> u32
     x + (x >> 8) + 3
 }
 
-// 512ths past the last whole one.
+// The 512ths past the last whole second.
 fn past_512ths(x: u32) -> u32
     ensures { λ r. ⌜ r ≡ x % 512 ⌝ }
 {
     x - ((x >> 9) << 9)
 }
 
-// 256ths past the last whole one.
+// The 256ths past the last whole minute.
 fn past_256ths(x: u32) -> u32
     ensures { λ r. ⌜ r ≡ x % 256 ⌝ }
 {
@@ -158,7 +160,7 @@ fn seconds_of(n: u32) -> u32
     in_512ths(n) >> 9
 }
 
-// The frames past the last whole second.
+// The frame that a count of frames leads to, past its whole seconds.
 fn frame_of(n: u32) -> u8
     requires { ⌜ n < allFrames ⌝ }
     ensures { λ r. ⌜ r ≡ n % 75 ⌝ }
@@ -174,7 +176,7 @@ fn minute_of(n: u32) -> u8
     (in_256ths(n) >> 8) as u8
 }
 
-// The seconds past the last whole minute.
+// The second that a count of seconds leads to, past its whole minutes.
 fn second_of(n: u32) -> u8
     requires { ⌜ n < 6000 ⌝ }
     ensures { λ r. ⌜ r ≡ n % 60 ⌝ }

@@ -5,7 +5,7 @@ use borrow.Author.Needs.{needs}
 use Rattle.mmc.proofs.times.fifths_of.Statement.{statement}
 use Rattle.mmc.proofs.times.fifths_of.Tie as tie
 
--- no bit of 64 minutes is lost
+-- the shift drops no bit
 whole : (m : ℕ) → m < 256 → ((m + m + m + m) * 16) % 4294967296 ≡ m * 64
 whole m h = omega (arith, h)
 
