@@ -47,8 +47,8 @@ fn operators_put_back() {
             "a multiplication",
         ),
         (
-            "five((q << 4) + (second as u32))",
-            "5*((q << 4) + (second as u32))",
+            "nine((m << 6) - m + s)",
+            "9*((m << 6) - m + s)",
             "a multiplication",
         ),
         (

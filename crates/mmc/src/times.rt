@@ -101,6 +101,14 @@ fn five(x: u32) -> u32
     x + x + x + x + x
 }
 
+// Nine times a number.
+fn nine(x: u32) -> u32
+    requires { ⌜ x < 262144 ⌝ }
+    ensures { λ r. ⌜ r ≡ 9 * x ⌝ }
+{
+    three(three(x))
+}
+
 // A count of frames in 512ths of a second: 13981 / 2048 of it, as 31 / 32 of 7 + 3 / 64. With 5 more, for what the shifts drop, it lies past
 // the frame's start and before its end.
 fn in_512ths(n: u32) -> u32
@@ -212,20 +220,22 @@ fn is_time(t: Time) -> bool
     t.minute <= 99 && (t.second <= 59 && t.frame <= 74)
 }
 
-// Minutes and seconds in fifths of a second: those of minutes of 64 seconds, less those of 4 seconds a minute.
-fn fifths_of(minute: u8, second: u8) -> u32
-    ensures { λ r. ⌜ r ≡ 5 * (minute * 60 + second) ⌝ }
+// Minutes and seconds in frames: 72 and 3 a second, and a minute 72 times 63 less 36.
+fn frames_before(minute: u8, second: u8) -> u32
+    ensures { λ r. ⌜ r ≡ (minute * 60 + second) * 75 ⌝ }
 {
     let m = minute as u32;
-    let q = m + m + m + m;
-    five((q << 4) + (second as u32)) - five(q)
+    let s = second as u32;
+    let x = nine((m << 6) - m + s);
+    let y = nine(m);
+    (x << 3) - (y << 2) + three(s)
 }
 
-// Minutes, seconds and frames in frames, 15 to a fifth of a second.
+// Minutes, seconds and frames in frames.
 fn in_frames(minute: u8, second: u8, frame: u8) -> u32
     ensures { λ r. ⌜ r ≡ (minute * 60 + second) * 75 + frame ⌝ }
 {
-    three(five(fifths_of(minute, second))) + (frame as u32)
+    frames_before(minute, second) + (frame as u32)
 }
 
 // A time as a count of frames.
