@@ -51,7 +51,7 @@ static void least(double *so_far, double took) {
 }
 
 static void row(const char *name, double then, double now) {
-    printf("%-48s %6.2f ns %6.2f ns %6.2f\n", name, 1e9 * then / COUNT, 1e9 * now / COUNT, now / then);
+    printf("%-52s %6.2f ns %6.2f ns %6.2f\n", name, 1e9 * then / COUNT, 1e9 * now / COUNT, now / then);
 }
 
 static void compare(const char *order, int rounds) {
@@ -91,7 +91,7 @@ int main(int count, char **words) {
     int rounds = count > 1 ? atoi(words[1]) : 30;
     for (int i = 0; i < COUNT; i++) addresses[i] = FIRST + i;
     if (!alike()) return 1;
-    printf("%d addresses, and back: both answer alike\n%-48s %9s %9s %6s\n", COUNT, "a call", "then", "now", "ratio");
+    printf("%d addresses, and back: both answer alike\n%-52s %9s %9s %6s\n", COUNT, "a call", "then", "now", "ratio");
     compare("in order", rounds);
     srand(1);
     for (int i = COUNT - 1; i > 0; i--) {

@@ -29,6 +29,7 @@ pub fn in_source(text: &str) -> Vec<String> {
             ('/', "a division"),
             ('%', "a remainder"),
             ('*', "a multiplication"),
+            ('"', "a text, in which // begins no comment"),
         ] {
             if line.contains(operator) {
                 faults.push(at(what));

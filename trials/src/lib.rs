@@ -2,7 +2,8 @@
 //! `random` and `polling_random` make random jobs, `corners`, `polling_corners`
 //! and `erasing_corners` the fixed ones; `requests` makes requests over the byte
 //! layouts, which `packed` gives in a binary form, and `cdtext_random` and
-//! `cdtext_corners` those over CD-TEXT.
+//! `cdtext_corners` those over CD-TEXT. `conversion` looks at the source and the
+//! machine code of the conversion of times.
 
 #![forbid(unsafe_code)]
 

@@ -58,6 +58,7 @@ fn operators_put_back() {
         ),
         ("x - (x >> 5)", "x - (x /* by 32 */ / 32)", "a division"),
         ("x - (x >> 5)", "x - x / 32 // a shift", "a division"),
+        ("x - (x >> 5)", "x - w(b\"//\") / 32", "a text"),
     ] {
         let faults = in_source(&planted(&text, old, new));
         assert!(

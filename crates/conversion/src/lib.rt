@@ -1,4 +1,4 @@
-// The conversion of addresses and times alone, under C names: its machine code is what trials/conversion reads and bench/conversion times.
+// The conversion of addresses and times alone, under C names: trials/gate looks at its machine code, and bench/conversion times it.
 ghost use mathlib.Core.Path.{_≡_};
 ghost use Rattle.conversion.specs.Conversion.{numberGiven, timeGiven, addressGiven};
 ghost use Rattle.mmc.specs.Times.{timeOf, addressOf};

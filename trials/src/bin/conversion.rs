@@ -9,7 +9,7 @@
 
 use std::fs;
 use std::io::{self, stdin};
-use std::path::Path;
+use std::path::{Path, PathBuf};
 use std::process::ExitCode;
 use trials::conversion::{copied, in_machine_code, in_source, SOURCE};
 
@@ -44,22 +44,26 @@ fn main() -> ExitCode {
 fn in_sources(crates: &Path) -> io::Result<Vec<String>> {
     let conversion = crates.join(SOURCE);
     let mut faults = in_source(&fs::read_to_string(&conversion)?);
-    for folder in fs::read_dir(crates)? {
-        for source in fs::read_dir(folder?.path().join("src"))
-            .into_iter()
-            .flatten()
-        {
-            let source = source?.path();
-            if source == conversion || source.extension().is_none_or(|e| e != "rt") {
-                continue;
-            }
+    for source in sources_below(crates)? {
+        if source != conversion {
             let found = copied(&fs::read_to_string(&source)?);
-            faults.extend(
-                found
-                    .iter()
-                    .map(|fault| format!("{}: {fault}", source.display())),
-            );
+            let place = source.display();
+            faults.extend(found.iter().map(|fault| format!("{place}: {fault}")));
         }
     }
     Ok(faults)
+}
+
+/// Every file of Rattle below a folder.
+fn sources_below(folder: &Path) -> io::Result<Vec<PathBuf>> {
+    let mut found = vec![];
+    for entry in fs::read_dir(folder)? {
+        let path = entry?.path();
+        if path.is_dir() {
+            found.extend(sources_below(&path)?);
+        } else if path.extension().is_some_and(|e| e == "rt") {
+            found.push(path);
+        }
+    }
+    Ok(found)
 }

@@ -1,4 +1,4 @@
-use mathlib.Core.Path.{refl, sym, ap, _∙_}
+use mathlib.Core.Path.{_≡_, refl, sym, ap, _∙_}
 use lib.IntN.{ℤ}
 use mir.Facts.{toZ-ofZ}
 use Rattle.mmc.specs.Times.{timeIn, timeOf}
@@ -27,11 +27,14 @@ enum-known-answer-2 c = search needs
 number-requires : tie.Need-number-requires
 number-requires c κs = search needs
 
+found : (c : tie.After-time-of) → timeOf (record { 0 = c .before .args .address }) ≡ timeIn (c .time-of .result)
+found c = ap (λ (z : ℤ). timeOf (record { 0 = z })) (sym (toZ-ofZ (c .before .fits .address))) ∙ sym (c .time-of .ensures .answer)
+
 returns : tie.Need-returns
-returns c = rw (ap (λ (z : ℤ). timeOf (record { 0 = z })) (sym (toZ-ofZ (c .before .before .before .before .fits .address))) ∙ sym (c .before .before .before .time-of .ensures .answer) ∙ ap timeIn (c .before .answer .given .1)) (refl, refl)
+returns c = rw (found (c .before .before .before) ∙ ap timeIn (c .before .answer .given .1)) (refl, refl)
 
 returns-2 : tie.Need-returns-2
-returns-2 c = rw (ap (λ (z : ℤ). timeOf (record { 0 = z })) (sym (toZ-ofZ (c .before .before .before .before .before .fits .address))) ∙ sym (c .before .before .before .before .time-of .ensures .answer) ∙ ap timeIn (c .before .before .answer2 .given .1)) (c .number .ensures, refl)
+returns-2 c = rw (found (c .before .before .before .before) ∙ ap timeIn (c .before .before .answer2 .given .1)) (c .number .ensures, refl)
 
 pub conversion-time-spec : {M : Type 1} → statement M
 conversion-time-spec =
