@@ -10,7 +10,7 @@ pub const SOURCE: &str = "mmc/src/times.rt";
 pub const EXPORTED: [&str; 2] = ["conversion_time", "conversion_address"];
 
 /// Frames in a second and in a minute: whatever computes with a time has one.
-const COUNTS: [&str; 2] = ["75", "4500"];
+const COUNTS: [u64; 2] = [75, 4500];
 
 /// What the conversion's source does that it may not: an operator, or a call
 /// of a function that another source has, where an operator could stand unseen.
@@ -48,7 +48,7 @@ pub fn copied(text: &str) -> Vec<String> {
     let mut faults = vec![];
     for (number, line) in code(text, &mut faults) {
         let mut words = line.split(|c: char| !c.is_alphanumeric() && c != '_');
-        if words.any(|word| COUNTS.contains(&word)) {
+        if words.any(|word| value(word).is_some_and(|n| COUNTS.contains(&n))) {
             faults.push(format!("line {number}: a count of frames: {line}"));
         }
     }
@@ -112,6 +112,17 @@ fn code<'a>(text: &'a str, faults: &mut Vec<String>) -> Vec<(usize, &'a str)> {
         }
     }
     kept
+}
+
+/// The number that a word is, in decimal or hex, with a type behind it or not.
+fn value(word: &str) -> Option<u64> {
+    let bare = word.replace('_', "");
+    let (digits, radix) = match bare.strip_prefix("0x") {
+        Some(hex) => (hex, 16),
+        None => (bare.as_str(), 10),
+    };
+    let end = digits.find(|c: char| !c.is_digit(radix));
+    u64::from_str_radix(&digits[..end.unwrap_or(digits.len())], radix).ok()
 }
 
 fn is_type(name: &str) -> bool {

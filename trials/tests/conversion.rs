@@ -109,6 +109,8 @@ fn second_copy_of_the_formula() {
     for formula in [
         "let s = (at.0 + 150) as u32 / 75;",
         "let m = (at.0 + 150) / 4500;",
+        "let m = (at.0 + 150) as u32 / 4_500u32;",
+        "let s = (at.0 + 150) as u32 / 0x4Bu32;",
         "let mut n = at.0; while 75 <= n { n = n - 75; }",
     ] {
         let copy = planted(
