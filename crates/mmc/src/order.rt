@@ -1,7 +1,7 @@
 // An order of tracks, and what is judged of it.
 ghost use mathlib.Core.Path.{_≡_};
-ghost use Prim.Native.Nat.{_≤_, _<_, min};
-ghost use lib.ListN.{drop};
+ghost use Prim.Native.Nat.{_≤_, _<_, _^_, min};
+ghost use lib.ListN.{length, drop};
 ghost use Rattle.mmc.specs.Order.{mostTracks, noTrack, isNone, allNone, noOrder, validOrder, tracksIn, sameKind, isSao, orderKind, allKind, allLong, blocksOf, keepsSao, mixedOrKept, overlong};
 use crate::times::LAST_ADDRESS;
 use crate::units::BlockCount;
@@ -44,7 +44,7 @@ pub const ROWS: usize = MOST_TRACKS as usize;
 const LEAST_BLOCKS: u64 = 300;
 
 // The lead-out stands at this address at most.
-const LAST_LEAD_OUT: u64 = LAST_ADDRESS as u64;
+pub const LAST_LEAD_OUT: u64 = LAST_ADDRESS as u64;
 
 // What stands where there is no track.
 pub(crate) fn no_track() -> Track
@@ -202,7 +202,7 @@ pub fn all_long(o: Order) -> bool
 
 // The sum S of the lengths of the tracks after the first so many.
 pub fn blocks_after(o: Order, first: usize) -> BlockSum
-    ensures { λ r. ⌜ r .0 ≡ blocksOf (drop first (tracksIn o)) ⌝ }
+    ensures { λ r. ⌜ (r .0 ≡ blocksOf (drop first (tracksIn o))) × (r .0 < 2 ^ 40) ⌝ }
 {
     let n = track_count(o);
     let tracks = o.tracks;
@@ -213,6 +213,14 @@ pub fn blocks_after(o: Order, first: usize) -> BlockSum
         i = i + 1;
     }
     BlockSum(sum)
+}
+
+// How many tracks there are after the first so many.
+pub fn tracks_after(o: Order, first: usize) -> usize
+    ensures { λ r. ⌜ (r ≡ length (drop first (tracksIn o))) × (r ≤ mostTracks) ⌝ }
+{
+    let n = track_count(o);
+    if first < n { n - first } else { 0 }
 }
 
 // Whether a session at once is to be kept appendable.
@@ -243,7 +251,7 @@ pub fn mixed_or_kept(o: Order) -> bool
 }
 
 // 10 where the first track starts at address 0: the lead-out would stand past the last address for one.
-pub fn is_overlong(o: Order) -> bool
+pub(crate) fn is_overlong(o: Order) -> bool
     ensures { λ r. ⌜ r ≡ overlong o ⌝ }
 {
     LAST_LEAD_OUT < blocks_after(o, 0).0

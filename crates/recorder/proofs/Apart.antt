@@ -21,7 +21,7 @@ use Rattle.recorder.specs.Answers.{Why}
 use Rattle.recorder.specs.Replies.{reading}
 use Rattle.recorder.specs.Script.{countIn, stepwise}
 use Rattle.recorder.specs.Exchanges.{Exchange, upward, occupied, startAt, past, see, seen}
-use Rattle.recorder.specs.Rules.{unusable, fits, still, openingTests, laterTests, trackTests, judge, judged, Found, none, found, refusedBy, firstRefused}
+use Rattle.recorder.specs.Rules.{unusable, needed, fits, openingTests, laterTests, trackTests, judge, judged, Found, none, found, refusedBy, firstRefused}
 use Rattle.recorder.proofs.Lists.{false-true, none-found, neither, frames-back, Clear, passed-clear, Under, nowhere, under-more, under-upward, under-rises}
 use Rattle.recorder.proofs.Turns.{made, Played, nothing, then, Asks, a46, a51, a52, a03, Reads, busy, not-ready, failed, malformed, profile, status, information, indication, ready, unread, reads}
 use Rattle.recorder.proofs.Rulings.{unrefused-last}
@@ -30,7 +30,7 @@ use Rattle.recorder.proofs.Rulings.{unrefused-last}
 
 pub record Passed (o : Order) (t : ℕ) (v : Seen) (i : TrackInformation) : Type 0 where
   pub usable : unusable (o .method) (v .at) i ≡ false
-  pub fitting : not (fits (o .method) (still o t) i) ≡ false
+  pub fitting : not (fits (o .method) (needed o t) i) ≡ false
   pub opening : eqb t 1 ≡ true → o .erase ≡ false → Clear (openingTests o t v i)
 
 pub passed : (o : Order) (t : ℕ) (v : Seen) (i : TrackInformation) → Clear (trackTests o t v i) → Passed o t v i

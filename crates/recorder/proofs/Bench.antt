@@ -9,7 +9,7 @@ use Rattle.mmc.specs.Times.{inRange, hasTime, framesTo, addressAt, timeFrames, 
 use Rattle.mmc.specs.Commands.{writeRange, writeBytes, writeCommand, sendCueSheet, closeTrackSession}
 use Rattle.mmc.specs.Sheet.{sheetSize, sheetFault, cueEntry, leadInEntry, pauseEntry, startEntry, leadOutEntry, trackEntries, sheetOf, cueSheet}
 use Rattle.recorder.specs.Replies.{hasSense, senseOf, longWrite, isBusy, readFailed, notReady, isUnready, readUnready, progressOf, readProgress, wholeProfile, readProfile, wholeDisc, discOf, readDisc, wholeInformation, informationOf, readInformation}
-use Rattle.recorder.specs.Rules.{otherProfile, unsuitable, unusable, fits, used, notErasable}
+use Rattle.recorder.specs.Rules.{otherProfile, unsuitable, unusable, fits, tooLong, used, notErasable}
 use Rattle.recorder.specs.Job.{inOrder, inTime, inPiece, isWrite, standsIn}
 use Rattle.recorder.specs.Bench.{PollSheets, EraseSheets, StarredSheets, OtherSheets}
 
@@ -35,7 +35,7 @@ poll-sheets =
     }
 
 pub erase-sheets : EraseSheets
-unfolding sheetSize sendCueSheet closeTrackSession framesTo bytes32 be32 allKind allLong blocksOf inRange addressAt writeRange writeBytes writeCommand hasSense senseOf longWrite isBusy readFailed notReady isUnready readUnready progressOf readProgress wholeProfile readProfile wholeDisc discOf readDisc wholeInformation informationOf readInformation otherProfile unsuitable unusable mixedOrKept fits inOrder inTime inPiece isWrite standsIn overlong used notErasable
+unfolding sheetSize sendCueSheet closeTrackSession framesTo bytes32 be32 allKind allLong blocksOf inRange addressAt writeRange writeBytes writeCommand hasSense senseOf longWrite isBusy readFailed notReady isUnready readUnready progressOf readProgress wholeProfile readProfile wholeDisc discOf readDisc wholeInformation informationOf readInformation otherProfile unsuitable unusable mixedOrKept fits inOrder inTime inPiece isWrite standsIn tooLong used notErasable
 erase-sheets =
     record {
       commands = refl;

@@ -17,8 +17,7 @@ use Rattle.recorder.specs.declared.exchanges.Seen.{Seen}
 use Rattle.recorder.specs.Replies.{reading, ofProfile, ofDisc}
 use Rattle.recorder.specs.Script.{code, isErasing}
 use Rattle.recorder.specs.Exchanges.{Exchange, profile as profileSaid, disc, erased, unblank, seen}
-use Rattle.recorder.specs.Rules.{used, notErasable, Judgement, onward, tested, erasingTests, blankTests, discTests, erases, erasingIf, judgeDisc, judge, judged, pollsIf, isLast, move, left}
-use Rattle.mmc.specs.Order.{overlong}
+use Rattle.recorder.specs.Rules.{tooLong, used, notErasable, Judgement, onward, tested, erasingTests, blankTests, discTests, erases, erasingIf, judgeDisc, judge, judged, pollsIf, isLast, move, left}
 use Rattle.recorder.specs.History.{Each, Recordable, RightlyErased, ErasesRightly, BlankBefore, WritesOnBlank}
 use Rattle.recorder.proofs.Lists.{if-no, false-true, neither, Clear, tested-by}
 use Rattle.recorder.proofs.Turns.{made, Played, nothing, then, Reads, busy, not-ready, failed, malformed, a46, a51, a03, profile, status, information, indication, ready, unread, reads, Turn, repeats, refuses, works, polls-begin, erases-first, asks, polls-on, polls-end, turn, profile-seen, erased-seen}
@@ -67,7 +66,7 @@ never false = refl
 
 -- 8, 9 and 10 have passed
 recordable-so : (o : Order) (p : ℕ) (d : DiscInformation) → Clear (erasingTests o p d) → Recordable o
-unfolding overlong
+unfolding tooLong
 recordable-so o p d c = record { alike = c .1 .1 .0; long = not-false _ (c .1 .1 .1 .0); ends = ltb-false _ _ (c .1 .1 .1 .1 .0) }
 
 -- a used disc that 16 lets pass is a CD-RW that is erasable

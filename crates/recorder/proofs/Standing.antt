@@ -25,7 +25,7 @@ use Rattle.recorder.specs.declared.replies.Reading.the-variants.{Unread}
 use Rattle.recorder.specs.declared.exchanges.Seen.{Seen}
 use Rattle.recorder.specs.Script.{takesImmed, write, portion}
 use Rattle.recorder.specs.Exchanges.{Named, see, name}
-use Rattle.recorder.specs.Rules.{still, leadOut, lastFrame, fits, trackTests, judge, none, refusedBy}
+use Rattle.recorder.specs.Rules.{still, needed, leadOut, lastFrame, fits, trackTests, judge, none, refusedBy}
 use Rattle.recorder.specs.Places.{pieceEnded, beforeBlock, afterCloseTrack, pieceOf, afterIn}
 use Rattle.recorder.proofs.Lists.{none-found, false-true, both, passed-clear}
 use Rattle.recorder.proofs.Turns.{isAsking, Reads, malformed, profile, status, information, indication, ready, unread}
@@ -151,7 +151,7 @@ limits m s i e = let p = both (leb s (i .free .0)) (leb (leadOut m s i) lastFram
 informed-tao : (o : Order) (t : ℕ) (v : Seen) (i : TrackInformation) → Sized o → InOrder (by o Tao) t → Passed (by o Tao) t v i → InTrack (by o Tao) t (record { track = t; start = framesTo (i .address) .0; free = i .free .0 })
 informed-tao o zero v i z r p = let h = r .one in absurd (omega arith)
 informed-tao o (suc t) v i z r p =
-    let w = limits Tao (still (by o Tao) (suc t)) i (p .fitting) in
+    let w = limits Tao (needed (by o Tao) (suc t)) i (p .fitting) in
     let e : still (by o Tao) (suc t) ≡ blocksAfter (by o Tao) t = let k : suc t - 1 ≡ t = omega arith in ap (blocksAfter o) k in
     let h = r .few in
     let a = z .all in
@@ -163,10 +163,10 @@ informed-sao : (o : Order) (v : Seen) (i : TrackInformation) → (o .erase ≡ t
 informed-sao o v i early p = go (o .erase) refl
   where
     go : (b : Bool) → o .erase ≡ b → InSession (by o Sao)
-    go true e = let r = early e in record { alike = r .alike; long = r .long; limit = r .ends }
+    go true e = let r = early e in let h = r .ends in record { alike = r .alike; long = r .long; limit = omega arith }
     go false e =
         let c = p .opening refl e in
-        let w = limits Sao (blocksAfter (by o Sao) 0) i (p .fitting) in
+        let w = limits Sao (needed (by o Sao) 1) i (p .fitting) in
         record { alike = c .1 .1 .1 .0; long = not-false _ (c .1 .1 .1 .1 .0); limit = omega arith }
 
 -- with flag bit 3 8, 9 and the lead-out limit have passed before a 52h

@@ -7,10 +7,10 @@ use Prim.Native.Nat.{ℕ, zero, suc, _+_, _-_, _*_, _/_, _%_, _≤_, _<_, max}
 use native.Mathlib.Omega.{arith}
 use borrow.Author.Tests.{le-ltb, le-leb, ltb-false, eqb-true, not-false}
 use lib.Dec.{ltb, leb, eqb, lit<, lit≤}
-use lib.ListN.{length, drop, replicate, length-append}
+use lib.ListN.{length, drop, replicate, length-append, length-drop}
 use Rattle.basics.specs.Bytes.{if, be32}
 use Rattle.mmc.specs.Refusals.{pass}
-use Rattle.mmc.specs.Order.{tracksIn, blocksOf, overlong}
+use Rattle.mmc.specs.Order.{tracksIn, blocksOf}
 use Rattle.mmc.specs.Times.{leadFrames, framesTo}
 use Rattle.mmc.specs.ReplyBlock.{Reply, replyOf}
 use Rattle.mmc.specs.declared.units.FrameCount.{FrameCount}
@@ -34,7 +34,7 @@ use Rattle.recorder.specs.Answers.{Ruling}
 use Rattle.recorder.specs.Replies.{wholeProfile, readProfile, wholeDisc, discOf, readDisc, wholeInformation, informationOf, readInformation, progressOf, readProgress, reading}
 use Rattle.recorder.specs.Script.{code, isErasing, takesImmed, isPolled, gather, write, portion, blocks, blocksFrom, blocksIn, script}
 use Rattle.recorder.specs.Exchanges.{Exchange, Named, see, seen, name, named}
-use Rattle.recorder.specs.Rules.{otherProfile, lastStatus, unsuitable, unusable, still, leadOut, lastFrame, fits, used, notErasable, tested, erasingTests, blankTests, discTests, erases, erasingIf, openingTests, laterTests, Judgement, onward, trackTests, pollsIf, judge, judged, move, left, none, refusedBy, firstRefused, ruled, exchanged, play}
+use Rattle.recorder.specs.Rules.{otherProfile, lastStatus, unsuitable, unusable, toCome, still, charge, needed, leadOut, lastFrame, fits, tooLong, used, notErasable, tested, erasingTests, blankTests, discTests, erases, erasingIf, openingTests, laterTests, Judgement, onward, trackTests, pollsIf, judge, judged, move, left, none, refusedBy, firstRefused, ruled, exchanged, play}
 use Rattle.recorder.specs.Places.{pieceEnded, beforeBlock, afterCloseTrack, opAfter, afterIn}
 use Rattle.recorder.specs.Job.{dueAt}
 use Rattle.recorder.specs.History.{AllMarkedGood, Bytes, AllBytes, discsIn, discs, Passing, Recordable, Suitable}
@@ -151,6 +151,17 @@ track-ahead o zero h l n = absurd (omega arith)
 track-ahead o (suc t) h l n =
     let k : t ≡ suc t - 1 = omega arith in
     ap ahead (sym (next-track (by o Tao) t (omega arith))) ∙ tracks-ahead (by o Tao) t ∙ ap (blocksAfter o) k
+
+-- no later track is charged more than the first
+charge-less : (m : Method) (a b : ℕ) → a ≤ b → charge m a ≤ charge m b
+charge-less Tao a b h = omega arith
+charge-less Sao a b h = omega arith
+
+charged-less : (o : Order) (t : ℕ) → charge (o .method) (length (toCome o t)) ≤ charge (o .method) (length (toCome o 1))
+charged-less o t =
+    let a = length-drop (t - 1) (tracksIn o) in
+    let b = length-drop 0 (tracksIn o) in
+    charge-less (o .method) _ _ (omega arith)
 
 -- room for what is ahead where each track begins right behind the one before, the first at address 0
 abbrev RoomBy : Method → Order → FrameCount → List Op → Type 0
@@ -272,8 +283,9 @@ module _ (o : Order) (z : Sized o) (ok : Recordable o) (p : ℕ) (d : DiscInform
       go true = let h = low-status in omega arith
       go false = let h = low-status in omega arith
 
+  -- all that is needed, which is free to the end
   abbrev all : ℕ
-  all = blocksOf (tracksIn o)
+  all = needed o 1
 
   -- 46h is told the profile; bit 0 of the same byte is NWA_V
   abbrev seventh : Op → ℕ
@@ -319,7 +331,7 @@ module _ (o : Order) (z : Sized o) (ok : Recordable o) (p : ℕ) (d : DiscInform
       ap not (ap (λ (b : Bool). b && leb (leadOut m s (informed q at)) lastFrame) (le-leb _ _ r) ∙ le-leb _ _ l)
 
   -- all or some of the tests pass
-  clear-by : (t : ℕ) (v : Seen) (i : TrackInformation) → v .profile ≡ p → (o .erase ≡ false → v .status ≡ d .status) → unusable (o .method) (v .at) i ≡ false → not (fits (o .method) (still o t) i) ≡ false → Clear (trackTests o t v i)
+  clear-by : (t : ℕ) (v : Seen) (i : TrackInformation) → v .profile ≡ p → (o .erase ≡ false → v .status ≡ d .status) → unusable (o .method) (v .at) i ≡ false → not (fits (o .method) (needed o t) i) ≡ false → Clear (trackTests o t v i)
   clear-by t v i a b u f = go (eqb t 1) (o .erase) refl
     where
       go : (c w : Bool) → o .erase ≡ w → Clear (if (c && not w) (openingTests o t v i) (laterTests o t v i))
@@ -327,31 +339,29 @@ module _ (o : Order) (z : Sized o) (ok : Recordable o) (p : ℕ) (d : DiscInform
       go true true e = (u, (f, tt))
       go false w e = (u, (f, tt))
 
-  still-first : still o 1 ≡ all
-  still-first = refl
-
   clear-52 : (m : Method) → o .method ≡ m → (t : TrackNumber) (v : Seen) (n : Named) → Standing m (by o m) (ReadTrackInformation t) v n → RoomBy m o (v .at) (ReadTrackInformation t ∷ behind (by o m) (ReadTrackInformation t)) → v .profile ≡ p → (o .erase ≡ false → v .status ≡ d .status) → Clear (trackTests o (t .0) v (informed (second v) (v .at .0)))
   clear-52 Tao e t v n s r a b =
       let k = track-ahead o (t .0) (s .one) (s .few) (z .all) in
+      let g = charged-less o (t .0) in
       let w = ok .ends in
       let h : v .at .0 < 4294967296 = omega arith in
       let c = named-start 9 (second v) (v .at .0 - leadFrames) all (omega arith) in
-      let l : leadOut Tao (still o (t .0)) (informed (second v) (v .at .0)) ≤ lastFrame = omega arith in
+      let l : leadOut Tao (needed o (t .0)) (informed (second v) (v .at .0)) ≤ lastFrame = omega arith in
       clear-by (t .0) v (informed (second v) (v .at .0)) a b (ap (λ (x : Method). unusable x (v .at) (informed (second v) (v .at .0))) e ∙ usable-so Tao (second v) (v .at) h)
-      (ap (λ (x : Method). not (fits x (still o (t .0)) (informed (second v) (v .at .0)))) e ∙ fits-so Tao (second v) (still o (t .0)) (v .at .0) (omega arith) h l)
+      (ap (λ (x : Method). not (fits x (needed o (t .0)) (informed (second v) (v .at .0)))) e ∙ fits-so Tao (second v) (needed o (t .0)) (v .at .0) (omega arith) h l)
   clear-52 Sao e t v n s r a b =
       let w = ok .ends in
       let g = s .1 in
       let h : v .at .0 < 4294967296 = omega arith in
-      let k : still o (t .0) ≡ all = ap (still o) (s .0) in
-      let l : leadOut Sao (still o (t .0)) (informed (second v) (v .at .0)) ≤ lastFrame = omega arith in
+      let k : needed o (t .0) ≡ all = ap (needed o) (s .0) in
+      let l : leadOut Sao (needed o (t .0)) (informed (second v) (v .at .0)) ≤ lastFrame = omega arith in
       clear-by (t .0) v (informed (second v) (v .at .0)) a b (ap (λ (x : Method). unusable x (v .at) (informed (second v) (v .at .0))) e ∙ usable-so Sao (second v) (v .at) h)
-      (ap (λ (x : Method). not (fits x (still o (t .0)) (informed (second v) (v .at .0)))) e ∙ fits-so Sao (second v) (still o (t .0)) (v .at .0) (omega arith) h l)
+      (ap (λ (x : Method). not (fits x (needed o (t .0)) (informed (second v) (v .at .0)))) e ∙ fits-so Sao (second v) (needed o (t .0)) (v .at .0) (omega arith) h l)
 
   -- ---- the tests of a 51h
 
   early-clear : (v : Seen) → v .profile ≡ p → o .erase ≡ true → Clear (erasingTests o (v .profile) d)
-  unfolding overlong
+  unfolding tooLong
   early-clear v a e =
       let n = ok .ends in
       let i = erasable-so e in

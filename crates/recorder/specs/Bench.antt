@@ -132,7 +132,7 @@ unready code ascq = failed 14 code 0x02 0x04 ascq
 
 -- the bytes that are given in a track at once of twice 300 blocks, k replies after the second 52h is due
 abbrev pub second : ℕ → List ℕ
-second k = bytesOf true 2 (ruled (pass (immediate (order Tao (300 ∷ 300 ∷ [])))) (play (pass (immediate (order Tao (300 ∷ 300 ∷ [])))) [] (replicate 29 (plain 0 7 617) ++ replicate k (plain 0 308 617))))
+second k = bytesOf true 2 (ruled (pass (immediate (order Tao (300 ∷ 300 ∷ [])))) (play (pass (immediate (order Tao (300 ∷ 300 ∷ [])))) [] (replicate 29 (plain 0 7 752) ++ replicate k (plain 0 308 617))))
 
 pub record PollSheets : Type 0 where
   -- the second track's 35h and 5Bh have Immed and are polled too, and so is the 35h of a session at once
@@ -320,13 +320,13 @@ pub record EraseSheets : Type 0 where
       ∷ wiping Tao (404850 ∷ []) (twice (rw 0x00))
       ∷ []
       ≡ 5 ∷ 6 ∷ 9 ∷ 10 ∷ []
-  -- S alone counts there, in TAO and SAO, and neither Free Blocks nor an address
+  -- S alone counts there, in TAO and SAO, "charged where Ask 6 holds", and neither Free Blocks nor an address
   pub alone :
       wiping Tao (404849 ∷ []) (twice (saying 0x12 0x20 0x0A 0xFFFFFFFF 0))
       ∷ wiping Sao (404849 ∷ []) (twice (saying 0x12 0x20 0x0A 0xFFFFFFFF 0))
       ∷ wiping Sao (404850 ∷ []) (twice (rw 0x12))
-      ∷ wiping Tao (300 ∷ 404549 ∷ []) (twice (rw 0x12))
-      ∷ wiping Tao (300 ∷ 404550 ∷ []) (twice (rw 0x12))
+      ∷ wiping Tao (300 ∷ 404397 ∷ []) (twice (rw 0x12))
+      ∷ wiping Tao (300 ∷ 404398 ∷ []) (twice (rw 0x12))
       ∷ []
       ≡ 0 ∷ 0 ∷ 10 ∷ 0 ∷ 10 ∷ []
   -- the second 51h: 4, and 6 for all but blank, in TAO too; "Erasable isn't judged again"
@@ -397,13 +397,19 @@ pub record StarredSheets : Type 0 where
   -- "Length 299: 9. Length 300 passes.": at the sheet maker, and in a job
   pub lengths : Layouts.Lengths
   pub short-or-long : opened (order Tao (299 ∷ [])) (plain 0 0 299) ∷ opened (order Tao (300 ∷ [])) (plain 0 0 300) ∷ [] ≡ 9 ∷ 0 ∷ []
-  -- "S equal to Free Blocks passes; one more: 10."
-  pub room : opened (order Tao (300 ∷ 450 ∷ [])) (plain 1 0 750) ∷ opened (order Tao (300 ∷ 450 ∷ [])) (plain 1 0 749) ∷ [] ≡ 0 ∷ 10 ∷ []
+  -- "S equal to Free Blocks passes; one more: 10.", in TAO the sum that document 02 charges
+  pub room :
+      opened (order Tao (750 ∷ [])) (plain 1 0 750)
+      ∷ opened (order Tao (750 ∷ [])) (plain 1 0 749)
+      ∷ opened (order Tao (300 ∷ 450 ∷ [])) (plain 1 0 902)
+      ∷ opened (order Tao (300 ∷ 450 ∷ [])) (plain 1 0 901)
+      ∷ []
+      ≡ 0 ∷ 10 ∷ 0 ∷ 10 ∷ []
   -- "SAO with S 449,849 and room passes; 449,850: 10.", which document 02 moves to 404,849 and 404,850: at the sheet maker, and in a job
   pub lead-outs : Layouts.LeadOuts
   pub last-lead-out : opened (order Sao (404849 ∷ [])) (plain 0 0 404850) ∷ opened (order Sao (404850 ∷ [])) (plain 0 0 404850) ∷ [] ≡ 0 ∷ 10 ∷ []
   -- "Second TAO address equal to the previous end passes; one less: 7."
-  pub second-address : after 25 (order Tao (300 ∷ 317 ∷ [])) (plain 0 7 617) (plain 0 307 617) ∷ after 25 (order Tao (300 ∷ 317 ∷ [])) (plain 0 7 617) (plain 0 306 617) ∷ [] ≡ 0 ∷ 7 ∷ []
+  pub second-address : after 25 (order Tao (300 ∷ 317 ∷ [])) (plain 0 7 769) (plain 0 307 617) ∷ after 25 (order Tao (300 ∷ 317 ∷ [])) (plain 0 7 769) (plain 0 306 617) ∷ [] ≡ 0 ∷ 7 ∷ []
   -- "Audio 300 and 450"
   pub entries : Layouts.Entries
   -- "TAO data, keep, protected: page starts 05 32 41 C4 08."
@@ -448,7 +454,7 @@ pub record OtherSheets : Type 0 where
   pub mixed : opened (orderOf Sao false (track Audio 300 ∷ track Data 300 ∷ [])) (plain 0 0 600) ≡ 8
   pub kept : opened (orderOf Sao true (audio (300 ∷ []))) (plain 0 0 300) ≡ 8
   -- neither is refused in a track at once
-  pub tao-free : opened (orderOf Tao true (track Audio 300 ∷ track Data 300 ∷ [])) (plain 0 0 600) ≡ 0
+  pub tao-free : opened (orderOf Tao true (track Audio 300 ∷ track Data 300 ∷ [])) (plain 0 0 752) ≡ 0
   -- a reply to 51h of another type, by any of the three bits: 4
   pub other-type : opened (order Tao (300 ∷ [])) (plain 0x20 0 300) ∷ opened (order Tao (300 ∷ [])) (plain 0x40 0 300) ∷ opened (order Tao (300 ∷ [])) (plain 0x80 0 300) ∷ [] ≡ 4 ∷ 4 ∷ 4 ∷ []
   -- busy by the codes 70h and F0h; not by the deferred code 71h, nor with 13 bytes

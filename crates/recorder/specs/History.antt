@@ -9,7 +9,7 @@ use lib.ListN.{length, getD}
 use lib.Dec.{ltb}
 use Rattle.basics.specs.Bytes.{if}
 use Rattle.mmc.specs.Refusals.{pass}
-use Rattle.mmc.specs.Order.{noTrack, tracksIn, allLong, blocksOf, mixedOrKept}
+use Rattle.mmc.specs.Order.{noTrack, tracksIn, allLong, mixedOrKept}
 use Rattle.mmc.specs.OrderBlock.{readOrder}
 use Rattle.mmc.specs.Page.{modeData}
 use Rattle.mmc.specs.Sheet.{sheetBytes, cueSheet}
@@ -30,7 +30,7 @@ use Rattle.recorder.specs.Answers.{Why, because, drive-failed, Ruling, i
 use Rattle.recorder.specs.Script.{gather, asksReady, isPoll, stepwise, write, Block, script, expected}
 use Rattle.recorder.specs.Replies.{ofDisc}
 use Rattle.recorder.specs.Exchanges.{Exchange, read, gathered, recorded, occupied, polling, progress, profile, disc, erased, unblank, Named, named}
-use Rattle.recorder.specs.Rules.{cdRw, finalized, otherProfile, unsuitable, used, notErasable, none, found, refusal, ruled, exchanged, play, orderedIn, AllClosed}
+use Rattle.recorder.specs.Rules.{cdRw, finalized, otherProfile, unsuitable, needed, used, notErasable, none, found, refusal, ruled, exchanged, play, orderedIn, AllClosed}
 use Rattle.recorder.specs.Job.{Next, nextIn, mostCommands, latestProgress, unchanged, validOf, idleRecorder, takeOf, giveOf}
 
 -- what the calls gave back since the order was taken: the last step; all answers, and the commands with the replies to them, the
@@ -143,11 +143,11 @@ Unskipped immed before c = isPoll (c .op) ≡ polling immed before
 
 -- ---- "No disc may be wiped for an order known to be bad"
 
--- an order that passes 8, 9 and the lead-out limit
+-- an order that passes 8, 9 and, with what lies between its tracks, the lead-out limit
 pub record Recordable (o : Order) : Type 0 where
   pub alike : mixedOrKept o ≡ false
   pub long : allLong (tracksIn o) ≡ true
-  pub ends : blocksOf (tracksIn o) ≤ lastAddress
+  pub ends : needed o 1 ≤ lastAddress
 
 -- an A1h, where 46h said the profile p and 51h the disc d: the order has flag bit 3 and passes 8, 9 and the lead-out limit; the profile is
 -- 000Ah, so 5 passes too; the disc is erasable, and of status 1 or 2; and no erasing has taken place

@@ -2,16 +2,17 @@
 use mathlib.Core.Path.{_≡_}
 use mathlib.Core.Bool.{Bool, false, not, _&&_, _||_}
 use mathlib.Core.List.{List, [], _∷_, _++_}
-use Prim.Native.Nat.{ℕ, _+_, _-_}
-use lib.ListN.{drop}
+use Prim.Native.Nat.{ℕ, _+_, _-_, _*_}
+use lib.ListN.{length, drop}
 use lib.Dec.{ltb, leb, eqb}
 use Rattle.basics.specs.Bytes.{if}
 use Rattle.mmc.specs.Refusals.{Outcome, pass, refuse, numberOf, Test, test}
-use Rattle.mmc.specs.Order.{tracksIn, blocksOf, mixedOrKept, shortTrack, overlong}
+use Rattle.mmc.specs.Order.{tracksIn, blocksOf, mixedOrKept, shortTrack}
 use Rattle.mmc.specs.Times.{lastAddress, leadFrames, framesTo, addressAt}
 use Rattle.mmc.specs.ReplyBlock.{Reply}
 use Rattle.mmc.specs.declared.units.FrameCount.{FrameCount}
 use Rattle.mmc.specs.declared.order.Order.{Order}
+use Rattle.mmc.specs.declared.order.Track.{Track}
 use Rattle.mmc.specs.declared.order.Method.{Method}
 use Rattle.mmc.specs.declared.order.Method.the-variants.{Tao, Sao}
 use Rattle.recorder.specs.declared.script.Op.{Op}
@@ -85,11 +86,31 @@ unsuitable m status = ltb (lastStatus m) status
 unfoldable pub unusable : Method → FrameCount → TrackInformation → Bool
 unusable m end i = i .damaged || (stepwise m && (not (i .addressed) || ltb (framesTo (i .address) .0) (end .0)))
 
--- "the sum S of the lengths still to be recorded", from the track t on
-abbrev pub still : Order → ℕ → ℕ
-still o t = blocksOf (drop (t - 1) (tracksIn o))
+-- ---- what is needed from the track t on
 
--- "the lead-out address .. In TAO that address is Next Writable Address plus S; in SAO it is S", in frames
+abbrev pub toCome : Order → ℕ → List Track
+toCome o t = drop (t - 1) (tracksIn o)
+
+-- "the sum S of the lengths still to be recorded"
+abbrev pub still : Order → ℕ → ℕ
+still o t = blocksOf (toCome o t)
+
+-- "Our drives start a track 152 blocks after the last one ends": what a track after the first is charged, "in TAO only"
+abbrev pub gap : Method → ℕ
+gap Tao = 152
+gap Sao = 0
+
+-- "With m tracks still to come S is charged 152 (m - 1)"
+abbrev pub charge : Method → ℕ → ℕ
+charge w m = gap w * (m - 1)
+
+-- the charged sum, "for Free Blocks and for the lead-out limit"
+abbrev pub needed : Order → ℕ → ℕ
+needed o t = still o t + charge (o .method) (length (toCome o t))
+
+-- ---- 10
+
+-- "the lead-out address .. In TAO that address is Next Writable Address plus S; in SAO it is S", in frames; s is the charged sum
 abbrev pub leadOut : Method → ℕ → TrackInformation → ℕ
 leadOut m s i = if (stepwise m) (framesTo (i .address) .0 + s) (s + leadFrames)
 
@@ -100,6 +121,12 @@ lastFrame = lastAddress + leadFrames
 -- 10: "Fits means: the sum S .. is at most Free Blocks, and the lead-out address is at most" the last address
 unfoldable pub fits : Method → ℕ → TrackInformation → Bool
 fits m s i = leb s (i .free .0) && leb (leadOut m s i) lastFrame
+
+-- "10 for S alone": "S above the lead-out limit, without address and Free Blocks (charged ..)"
+unfoldable pub tooLong : Order → Bool
+tooLong o = ltb lastAddress (needed o 1)
+
+-- ---- 16
 
 -- "a disc of status 1 or 2"
 unfoldable pub used : ℕ → Bool
@@ -118,7 +145,7 @@ erasingTests o p d =
     ∷ test (ltb finalized (d .status)) 6
     ∷ test (mixedOrKept o) 8
     ∷ test (shortTrack o) 9
-    ∷ test (overlong o) 10
+    ∷ test (tooLong o) 10
     ∷ test (notErasable p d) 16
     ∷ []
 
@@ -150,12 +177,12 @@ openingTests o t v i =
     ∷ test (unusable (o .method) (v .at) i) 7
     ∷ test (mixedOrKept o) 8
     ∷ test (shortTrack o) 9
-    ∷ test (not (fits (o .method) (still o t) i)) 10
+    ∷ test (not (fits (o .method) (needed o t) i)) 10
     ∷ []
 
 -- a fresh 52h: "judged for 4, 7, 10"
 abbrev pub laterTests : Order → ℕ → Seen → TrackInformation → List Test
-laterTests o t v i = test (unusable (o .method) (v .at) i) 7 ∷ test (not (fits (o .method) (still o t) i)) 10 ∷ []
+laterTests o t v i = test (unusable (o .method) (v .at) i) 7 ∷ test (not (fits (o .method) (needed o t) i)) 10 ∷ []
 
 -- with flag bit 3 the first too: "at the 52h 4, 7, 10"
 abbrev pub trackTests : Order → ℕ → Seen → TrackInformation → List Test

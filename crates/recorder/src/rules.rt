@@ -1,12 +1,13 @@
 // The judgement of a reply: what the rules look at, and the numbers 4 to 10, 12 and 16.
 ghost use mathlib.Core.Path.{_≡_};
 ghost use mathlib.Core.List.{[], _∷_};
-ghost use Prim.Native.Nat.{_≤_, _<_, _^_};
+ghost use Prim.Native.Nat.{_-_, _≤_, _<_, _^_};
+ghost use Rattle.mmc.specs.Order.{mostTracks};
 ghost use Rattle.mmc.specs.Refusals.{test};
 ghost use Rattle.mmc.specs.Times.{framesTo};
 ghost use Rattle.recorder.specs.Replies.{Unsigned, UnsignedIn, ForTrack};
 ghost use Rattle.recorder.specs.Script.{trackIn, isPolled};
-ghost use Rattle.recorder.specs.Rules.{otherProfile, unsuitable, unusable, fits, used, notErasable, tested, erasingTests, erasingIf, judgeDisc, trackTests, pollsIf, isLast, onward, judgementIn, untested, judge};
+ghost use Rattle.recorder.specs.Rules.{otherProfile, unsuitable, unusable, gap, charge, needed, fits, tooLong, used, notErasable, tested, erasingTests, erasingIf, judgeDisc, trackTests, pollsIf, isLast, onward, judgementIn, untested, judge};
 use crate::exchanges::Seen;
 use crate::exchanges::frames_to;
 use crate::replies::DiscInformation;
@@ -17,12 +18,13 @@ use crate::script::Op;
 use crate::script::is_stepwise;
 use crate::script::takes_immed;
 use crate::script::track_of;
+use mmc::order::LAST_LEAD_OUT;
 use mmc::order::Method;
 use mmc::order::Order;
 use mmc::order::all_long;
 use mmc::order::blocks_after;
-use mmc::order::is_overlong;
 use mmc::order::mixed_or_kept;
+use mmc::order::tracks_after;
 use mmc::refusals::Refusal;
 use mmc::times;
 use mmc::units::BlockSum;
@@ -55,6 +57,9 @@ const LEAD_FRAMES: u64 = times::LEAD_FRAMES as u64;
 
 // The frames to the last address of a lead-out.
 pub(crate) const LAST_FRAME: u64 = (times::LAST_ADDRESS + times::LEAD_FRAMES) as u64;
+
+// In a track at once so many blocks lie between one track and the next.
+const BETWEEN_TRACKS: u64 = 152;
 
 // 5: neither CD-R nor CD-RW.
 fn other_profile(profile: u16) -> bool
@@ -93,7 +98,50 @@ fn unusable_track(m: Method, end: FrameCount, start: u64, i: TrackInformation) -
     start < end.0 as u64
 }
 
-// 10 where not: the blocks still to be recorded are free, and the lead-out has a time.
+// How many blocks lie between a track and the next: none in a session at once.
+fn gap_of(m: Method) -> u64
+    ensures { λ r. ⌜ (r ≡ gap m) × (r < 2 ^ 16) ⌝ }
+{
+    match m {
+        Method::Tao => BETWEEN_TRACKS,
+        Method::Sao => 0,
+    }
+}
+
+// How many tracks there are behind the first of so many.
+fn others_of(tracks: usize) -> u64
+    ensures { λ r. ⌜ (r ≡ tracks - 1) × (r ≤ tracks) ⌝ }
+{
+    if tracks == 0 { 0 } else { tracks as u64 - 1 }
+}
+
+// What lies between so many tracks that are still to come.
+fn charge_for(m: Method, tracks: usize) -> u64
+    requires { ⌜ tracks ≤ mostTracks ⌝ }
+    ensures { λ r. ⌜ (r ≡ charge m tracks) × (r < 2 ^ 32) ⌝ }
+{
+    gap_of(m) * others_of(tracks)
+}
+
+// What is needed from a track on: the blocks still to be recorded, and what lies between their tracks.
+fn needed_from(o: Order, track: u16) -> BlockSum
+    requires { ⌜ 1 ≤ track ⌝ }
+    ensures { λ r. ⌜ r .0 ≡ needed o track ⌝ }
+{
+    let m = o.method;
+    let first = track as usize - 1;
+    let charge = charge_for(m, tracks_after(o, first));
+    BlockSum(blocks_after(o, first).0 + charge)
+}
+
+// 10 for the lead-out limit alone, where the first track starts at address 0.
+fn is_too_long(o: Order) -> bool
+    ensures { λ r. ⌜ r ≡ tooLong o ⌝ }
+{
+    LAST_LEAD_OUT < needed_from(o, 1).0
+}
+
+// 10 where not: what is needed is free, and the lead-out has a time.
 fn it_fits(m: Method, blocks: BlockSum, start: u64, i: TrackInformation) -> bool
     requires { ⌜ (start ≡ framesTo (i .address) .0) × (start < 2 ^ 33) ⌝ }
     ensures { λ r. ⌜ r ≡ fits m (blocks .0) i ⌝ }
@@ -178,7 +226,7 @@ fn judge_used(o: Order, profile: u16, d: DiscInformation) -> Verdict
     let other = other_profile(profile);
     let order = mixed_or_kept(o);
     let short = !all_long(o);
-    let full = is_overlong(o);
+    let full = is_too_long(o);
     let fault = first_of(other, FINALIZED < d.status, false, order, short, full);
     let Verdict::Onward = fault else {
         return fault;
@@ -214,7 +262,7 @@ fn judge_track(o: Order, track: u16, v: Seen, i: TrackInformation) -> Verdict
     let address = i.address;
     let start = frames_to(address);
     let unusable = unusable_track(m, at, start, i);
-    let full = !it_fits(m, blocks_after(o, track as usize - 1), start, i);
+    let full = !it_fits(m, needed_from(o, track), start, i);
     let later = first_of(false, false, unusable, false, false, full);
     if track != 1 {
         return later;

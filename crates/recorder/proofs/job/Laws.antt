@@ -38,7 +38,7 @@ use Rattle.recorder.specs.Answers.{because, stop, cdbOf}
 use Rattle.recorder.specs.Replies.{isBusy, readFailed, isUnready, readUnready, wholeProfile, readProfile, wholeDisc, readDisc, wholeInformation, informationOf, readInformation, readProgress, readGood, failedBy, reading, UnsignedIn, ForTrack}
 use Rattle.recorder.specs.Script.{trackIn, ofWrite, asksReady}
 use Rattle.recorder.specs.Exchanges.{startAt, past, see}
-use Rattle.recorder.specs.Rules.{Judgement, onward, still, lastFrame, fits, trackTests, judge, refusedBy}
+use Rattle.recorder.specs.Rules.{Judgement, onward, needed, lastFrame, fits, trackTests, judge, refusedBy}
 use Rattle.recorder.specs.Places.{pieceOf, blockAfter, opAfter, afterIn}
 use Rattle.recorder.specs.Job.{dueAt, dueIn, inOrder, inPiece, standsAt, standsIn, standsPolled, standsErasing, stands, Prepared, restsAt, idleRecorder, Next, Turn, goes, halt, onwardBy, turnBy, turnOf, stateOf, stepOf, unchanged, opening, takenAs, takeOf, giveOf}
 use Rattle.recorder.proofs.Lists.{both, passed-clear}
@@ -121,7 +121,7 @@ module _ (o : Order) (x : Op) (v : Seen) (h : v .at .0 < 2 ^ 32) (e : standsIn (
   fits-by p (Disc q) xs j = h
   fits-by p (Information i) xs j =
       let t = trackIn (dueAt x p) in
-      start-fits (o .method) (still o t) (v .at) i (passed o t v i (passed-clear (trackTests o t v i) [] (ap refusedBy j)) .fitting) h
+      start-fits (o .method) (needed o t) (v .at) i (passed o t v i (passed-clear (trackTests o t v i) [] (ap refusedBy j)) .fitting) h
   fits-by p (ProgressIndication n) xs j = h
   fits-by p Unread xs j = past-due p
 

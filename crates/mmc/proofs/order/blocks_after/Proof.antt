@@ -1,5 +1,5 @@
 use mathlib.Core.Path.{_≡_, ap, _∙_}
-use Prim.Native.Nat.{ℕ, _≤_, _-_, _+_, _*_, zero-le}
+use Prim.Native.Nat.{ℕ, _≤_, _-_, _+_, _*_, max, zero-le}
 use native.Mathlib.Omega.{arith}
 use mathlib.Core.List.{List}
 use lib.ListN.{length, drop, take}
@@ -12,7 +12,7 @@ use Rattle.mmc.proofs.order.blocks_after.Statement.{statement}
 use Rattle.mmc.proofs.order.blocks_after.Tie as tie
 
 abbrev Inv-loop : tie.InvT-loop
-Inv-loop first n tracks sum₀ i₀ sum i = (n ≤ 99) × (length tracks ≡ 99) × (sum ≤ 4294967296 * i) × (sum + blocksOf (drop i (take n tracks)) ≡ blocksOf (drop first (take n tracks)))
+Inv-loop first n tracks sum₀ i₀ sum i = (n ≤ 99) × (length tracks ≡ 99) × (first ≤ i) × (i ≤ max first n) × (sum ≤ 4294967296 * (i - first)) × (sum + blocksOf (drop i (take n tracks)) ≡ blocksOf (drop first (take n tracks)))
 
 abbrev μ-loop : tie.MeasureT-loop
 μ-loop first n tracks sum₀ i₀ sum i = n - i
@@ -21,7 +21,7 @@ track-count-requires : tie.Need-track-count-requires Inv-loop μ-loop
 track-count-requires c κs = search needs
 
 loop-holds : tie.Need-loop-holds Inv-loop μ-loop
-loop-holds c = (search needs, search (needs, mapped-length), zero-le, omega arith)
+loop-holds c = (search needs, search (needs, mapped-length), omega arith, omega arith, zero-le, omega arith)
 
 mul-track-blocks : tie.Need-mul-track-blocks Inv-loop μ-loop
 mul-track-blocks c = search needs
@@ -48,7 +48,7 @@ loop-again c =
     let o = k .before .args .o in
     let v = l .loop .inv in
     let h = blocks-next (o .tracks) (k .track-count .result) (l .loop .i) (omega arith) (omega arith) in
-    (v .0, v .1, omega arith, omega (arith, h))
+    (v .0, v .1, omega arith, omega arith, omega arith, omega (arith, h))
 
 returns : tie.Need-returns Inv-loop μ-loop
 returns c =

@@ -8,7 +8,7 @@ blocks-after-requires c κs = search needs
 
 returns : tie.Need-returns
 unfolding overlong
-returns c = rw (c .before .blocks-after .ensures)
+returns c = rw (c .before .blocks-after .ensures .0)
 
 pub is-overlong-spec : {M : Type 1} → statement M
 is-overlong-spec = tie.close (tie.spec blocks-after-requires returns)

@@ -20,13 +20,13 @@ opens o t v i e f = rw (e, f)
 returns : tie.Need-returns
 returns c =
     let k = c .before .before in
-    simp (ne-eqb _ 1 (c .if1 .taken), c .before .first-of .ensures, k .it-fits .ensures, k .before .blocks-after .ensures, k .before .before .unusable-track .ensures)
+    simp (ne-eqb _ 1 (c .if1 .taken), c .before .first-of .ensures, k .it-fits .ensures, k .before .needed-from .ensures, k .before .before .unusable-track .ensures)
 
 returns-2 : tie.Need-returns-2
 returns-2 c =
     let f = c .before .before in
     let k = f .before in
-    simp (eq-eqb _ 1 (c .before .if1 .left), c .if2 .taken, f .first-of .ensures, k .it-fits .ensures, k .before .blocks-after .ensures, k .before .before .unusable-track .ensures)
+    simp (eq-eqb _ 1 (c .before .if1 .left), c .if2 .taken, f .first-of .ensures, k .it-fits .ensures, k .before .needed-from .ensures, k .before .before .unusable-track .ensures)
 
 returns-3 : tie.Need-returns-3
 returns-3 c =
@@ -41,7 +41,7 @@ returns-3 c =
       c .before .before .mixed-or-kept .ensures,
       c .before .all-long .ensures,
       k .it-fits .ensures,
-      k .before .blocks-after .ensures,
+      k .before .needed-from .ensures,
       k .before .before .unusable-track .ensures,
     )
     (opens (a .o) (a .track) (a .v) (a .i) (eq-eqb _ 1 (e .before .if1 .left)) (e .if2 .left))
@@ -52,7 +52,6 @@ judge-track-spec =
     (tie.spec
     (λ c κs. search needs)
     (λ c κs. search needs)
-    (λ c. search needs)
     (λ c κs. search needs)
     (λ c κs. search needs)
     (λ c κs. search needs)

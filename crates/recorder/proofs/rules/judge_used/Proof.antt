@@ -37,7 +37,7 @@ judged : (c : tie.After-first-of) → judgementIn (c .first-of .result) ≡ test
 judged c =
     let f = c .before .before in
     let m = f .before .before in
-    simp (c .first-of .ensures, m .before .other-profile .ensures, m .mixed-or-kept .ensures, f .before .all-long .ensures, f .is-overlong .ensures)
+    simp (c .first-of .ensures, m .before .other-profile .ensures, m .mixed-or-kept .ensures, f .before .all-long .ensures, f .is-too-long .ensures)
 
 -- 16, and what comes next where it passes
 abbrev last : tie.Start → List Test
