@@ -31,6 +31,7 @@ use Rattle.recorder.proofs.Scripts.{script-length}
 use Rattle.recorder.proofs.Rulings.{ruled-at, rule-order, rule-done, due-poll, each-unskipped, rule-stop}
 use Rattle.recorder.proofs.Erasing.{isLater, rightly-erased, on-blank, each-rightly, each-on-blank}
 use Rattle.recorder.proofs.Apart.{rule-apart}
+use Rattle.recorder.proofs.Charge.{needs-all, room-lasts}
 use Rattle.recorder.proofs.Goods.{isEnd, not-going, never-polling, no-polls, Progressed, under-way, polled, at-end, rule-good}
 use Rattle.recorder.proofs.Witness.{can-pass}
 use Rattle.recorder.proofs.Behind.{Sized}
@@ -377,6 +378,7 @@ module _ (b : List ℕ) (rs : List Reply) where
       let r : Ruled (readOrder b) (h .exchanges) = subst (Ruled (readOrder b)) (sym is-played) (rules-hold (readOrder b) rs) in
       let t : ended (h .answers) ≡ ending (ruled (readOrder b) (h .exchanges)) = l .so-ended in
       let d = ended-done (ruled (readOrder b) (h .exchanges)) in
+      let x : (w : Why) → (ended (h .answers) ≡ as-stop w) ↔ (refusal (readOrder b) (h .exchanges) ≡ found w) = λ w. let i = ended-stop w (ruled (readOrder b) (h .exchanges)) in (λ e. r .stop-when w .0 (i .0 (sym t ∙ e)), λ e. t ∙ i .1 (r .stop-when w .1 e)) in
       record {
         played = is-played;
         in-turn = l .in-turn;
@@ -388,12 +390,13 @@ module _ (b : List ℕ) (rs : List Reply) where
         in-order = r .in-order;
         apart = r .apart;
         done-when = (λ e. r .done-when .0 (d .0 (sym t ∙ e)), λ w. t ∙ d .1 (r .done-when .1 w));
-        stop-when = λ w. let i = ended-stop w (ruled (readOrder b) (h .exchanges)) in (λ e. r .stop-when w .0 (i .0 (sym t ∙ e)), λ e. t ∙ i .1 (r .stop-when w .1 e));
+        stop-when = x;
         counted = l .counts;
         reported = l .reports ∙ l .counts;
         all-good = good-ends;
         is-valid = l .valid;
         never-stale = l .fresh;
+        room-lasts = λ o e m s f. room-lasts o (h .exchanges) m (read-sized b o e .all) (played-here o e) s (ap (λ (q : Outcome Order). refusal q (h .exchanges)) (sym e) ∙ x (because 10) .0 f);
         never-skips = λ o e. (each-unskipped o (h .exchanges) (played-here o e), l .unskipped o e (played-here o e));
         erases-rightly = λ o e. (each-rightly o (h .exchanges) (played-here o e), l .rightly o e (played-here o e));
         writes-on-blank = λ o e. (each-on-blank o (h .exchanges) (played-here o e), l .on-blank o e (played-here o e));
@@ -410,6 +413,7 @@ takes b s e =
       step = e;
       begins = record { is-last = e; whole = whole b [] };
       script-length = λ o q. script-length o (read-sized b o q .all);
+      needs = λ o q. needs-all o;
       can-pass = λ o q ok p d su. can-pass o (read-sized b o q) ok p d su;
     }
 

@@ -14,6 +14,7 @@ pub mod Leads
 pub mod States
 pub mod Orders
 pub mod Steps
+pub mod Charge
 pub mod Witness
 pub mod Histories
 pub mod Bench

@@ -1,10 +1,10 @@
 -- How an operation that is due stands to what was seen and to what the latest 52h named, and that the next one stands so too.
 use mathlib.Core.Path.{_≡_, refl, sym, ap, subst, _∙_}
-use mathlib.Core.Bool.{Bool, true, false, not}
+use mathlib.Core.Bool.{Bool, true, false, not, _&&_}
 use mathlib.Core.List.{List, [], _∷_}
 use Prim.Native.Nat.{ℕ, zero, suc, _+_, _-_, _≤_, _<_}
 use native.Mathlib.Omega.{arith}
-use borrow.Author.Tests.{ltb-true, ltb-false, leb-true, not-false}
+use borrow.Author.Tests.{ltb-true, ltb-false, leb-true, le-leb, not-false}
 use lib.Dec.{ltb, leb}
 use lib.ListN.{length, getD, drop}
 use lib.Seq.{drop-cons}
@@ -147,6 +147,10 @@ in-session o t f v n z i p = go (ltb f (pieceOf (by o Sao) t)) refl
 pub limits : (m : Method) (s : ℕ) (i : TrackInformation) → not (fits m s i) ≡ false → (s ≤ i .free .0) × (leadOut m s i ≤ lastFrame)
 unfolding fits
 limits m s i e = let p = both (leb s (i .free .0)) (leb (leadOut m s i) lastFrame) (not-false _ e) in (leb-true _ _ (p .0), leb-true _ _ (p .1))
+
+pub fits-within : (m : Method) (s : ℕ) (i : TrackInformation) → s ≤ i .free .0 → leadOut m s i ≤ lastFrame → not (fits m s i) ≡ false
+unfolding fits
+fits-within m s i h l = ap not (ap (λ (b : Bool). b && leb (leadOut m s i) lastFrame) (le-leb _ _ h) ∙ le-leb _ _ l)
 
 informed-tao : (o : Order) (t : ℕ) (v : Seen) (i : TrackInformation) → Sized o → InOrder (by o Tao) t → Passed (by o Tao) t v i → InTrack (by o Tao) t (record { track = t; start = framesTo (i .address) .0; free = i .free .0 })
 informed-tao o zero v i z r p = let h = r .one in absurd (omega arith)

@@ -43,7 +43,7 @@ use Rattle.recorder.proofs.Turns.{made, isAsking, Reads, malformed, pro
 use Rattle.recorder.proofs.Scripts.{by, each-blocks}
 use Rattle.recorder.proofs.Rulings.{refused-next, ruled-at}
 use Rattle.recorder.proofs.Behind.{Sized, tracksFrom, behind, onto, next-track, goes-on}
-use Rattle.recorder.proofs.Standing.{blocksAfter, Standing, StandingThen, standing-closing, stood, stood-polled}
+use Rattle.recorder.proofs.Standing.{blocksAfter, fits-within, Standing, StandingThen, standing-closing, stood, stood-polled}
 use Rattle.recorder.proofs.Moves.{planAt, Stood, standing-goes, immed-at}
 
 -- ---- the bytes of the replies
@@ -323,12 +323,10 @@ module _ (o : Order) (z : Sized o) (ok : Recordable o) (p : ℕ) (d : DiscInform
   usable-so Sao q at h = refl
 
   fits-so : (m : Method) (q s at : ℕ) → s ≤ all → at < 4294967296 → leadOut m s (informed q at) ≤ lastFrame → not (fits m s (informed q at)) ≡ false
-  unfolding fits
   fits-so m q s at h k l =
       let e = ok .ends in
       let f = named-free 9 q (at - leadFrames) all (omega arith) in
-      let r : s ≤ informed q at .free .0 = omega arith in
-      ap not (ap (λ (b : Bool). b && leb (leadOut m s (informed q at)) lastFrame) (le-leb _ _ r) ∙ le-leb _ _ l)
+      fits-within m s (informed q at) (omega arith) l
 
   -- all or some of the tests pass
   clear-by : (t : ℕ) (v : Seen) (i : TrackInformation) → v .profile ≡ p → (o .erase ≡ false → v .status ≡ d .status) → unusable (o .method) (v .at) i ≡ false → not (fits (o .method) (needed o t) i) ≡ false → Clear (trackTests o t v i)

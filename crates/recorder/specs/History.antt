@@ -17,10 +17,14 @@ use Rattle.mmc.specs.Times.{lastAddress, framesTo}
 use Rattle.mmc.specs.ReplyBlock.{Reply, replyOf}
 use Rattle.mmc.specs.declared.units.TrackNumber.{TrackNumber}
 use Rattle.mmc.specs.declared.order.Order.{Order}
+use Rattle.mmc.specs.declared.order.Track.{Track}
+use Rattle.mmc.specs.declared.order.Method.{Method}
+use Rattle.mmc.specs.declared.order.Method.the-variants.{Tao, Sao}
 use Rattle.recorder.specs.declared.script.Op.{Op}
 use Rattle.recorder.specs.declared.script.Op.the-variants.{ModeSelect, SendCueSheet, Blank}
 use Rattle.recorder.specs.declared.answers.Command.{Command}
 use Rattle.recorder.specs.declared.replies.DiscInformation.{DiscInformation}
+use Rattle.recorder.specs.declared.replies.TrackInformation.{TrackInformation}
 use Rattle.recorder.specs.declared.replies.Reading.{Reading}
 use Rattle.recorder.specs.declared.job.Phase.{Phase}
 use Rattle.recorder.specs.declared.job.Phase.the-variants.{Idle, Going, Finished, Stopped, Failed}
@@ -28,9 +32,10 @@ use Rattle.recorder.specs.declared.job.Recorder.{Recorder}
 use Rattle.recorder.specs.declared.job.Step.{Step}
 use Rattle.recorder.specs.Answers.{Why, because, drive-failed, Ruling, issue, done, stop, madeFor, bytesIn}
 use Rattle.recorder.specs.Script.{gather, asksReady, isPoll, stepwise, write, Block, script, expected}
-use Rattle.recorder.specs.Replies.{ofDisc}
+use Rattle.recorder.specs.Replies.{ofDisc, ofInformation}
+use Rattle.recorder.specs.Places.{pieceOf}
 use Rattle.recorder.specs.Exchanges.{Exchange, read, gathered, recorded, occupied, polling, progress, profile, disc, erased, unblank, Named, named}
-use Rattle.recorder.specs.Rules.{cdRw, finalized, otherProfile, unsuitable, needed, used, notErasable, none, found, refusal, ruled, exchanged, play, orderedIn, AllClosed}
+use Rattle.recorder.specs.Rules.{cdRw, finalized, otherProfile, unsuitable, toCome, needed, used, notErasable, none, found, refusal, ruled, exchanged, play, orderedIn, AllClosed}
 use Rattle.recorder.specs.Job.{Next, nextIn, mostCommands, latestProgress, unchanged, validOf, idleRecorder, takeOf, giveOf}
 
 -- what the calls gave back since the order was taken: the last step; all answers, and the commands with the replies to them, the
@@ -175,6 +180,45 @@ pub record BlankBefore (o : Order) (d : DiscInformation) (unblank : Bool) : Type
 abbrev pub WritesOnBlank : Order → List Exchange → Command → Type 0
 WritesOnBlank o before c = (t f k : ℕ) → c .op ≡ write t f k → BlankBefore o (disc before) (unblank before)
 
+-- ---- "Count what lies between tracks"
+
+-- what the replies to 52h said, from the first on
+abbrev pub informationsIn : Reading → List TrackInformation
+informationsIn r = ofInformation [] (λ i. i ∷ []) r
+
+abbrev pub informations : List Exchange → List TrackInformation
+informations es = gathered (λ e. informationsIn (read e)) es
+
+-- without the latest exchange
+abbrev pub earlier : List Exchange → List Exchange
+earlier [] = []
+earlier (e ∷ es) = es
+
+-- "Our drives start a track 152 blocks after the last one ends: two run-out blocks and a pause of 150"
+abbrev pub driveGap : ℕ
+driveGap = 2 + 150
+
+-- what is said of a track of l blocks and then of the next one: that starts so many blocks after the first ends, and Free Blocks falls by
+-- what was taken
+pub record Follows (l : ℕ) (i j : TrackInformation) : Type 0 where
+  pub starts : framesTo (j .address) .0 ≡ framesTo (i .address) .0 + l + driveGap
+  pub falls : i .free .0 ≡ j .free .0 + (l + driveGap)
+
+-- of each two of these that are neighbours
+abbrev pub Spaced : Order → List TrackInformation → Type 0
+Spaced o is = (before after : List TrackInformation) (i j : TrackInformation) → is ≡ before ++ (i ∷ j ∷ after) → Follows (pieceOf o (suc (length before))) i j
+
+-- where a track starts if the one before it ends at a, on such a drive; in SAO "each later one where its forerunner ends"
+abbrev pub startAfter : Method → ℕ → ℕ
+startAfter Tao a = a + driveGap
+startAfter Sao a = a
+
+-- where the last of these tracks ends if the first starts at a
+abbrev pub lastEnd : Method → ℕ → List Track → ℕ
+lastEnd m a [] = a
+lastEnd m a (x ∷ []) = a + x .length .0
+lastEnd m a (x ∷ y ∷ xs) = lastEnd m (startAfter m (a + x .length .0)) (y ∷ xs)
+
 -- ---- part 7
 
 -- "The exact count grows by 2 where an erasing took place"
@@ -240,6 +284,9 @@ pub record Whole (b : List ℕ) (rs : List Reply) (h : History) : Type 0 where
   pub is-valid : validOf (h .last .state) ≡ true
   -- "a track begun at a stale address spoils the disc": of every WRITE that is given
   pub never-stale : (o : Order) → readOrder b ≡ pass o → stepwise (o .method) ≡ true → Every Fresh (h .exchanges) (h .last .answer)
+  -- "TAO discs of many tracks stopped in the last with 10": on a drive that starts each track 152 blocks after the last one ends and whose
+  -- Free Blocks falls by what was taken, 10 stops no job after its first 52h has passed: no 52h was answered before the reply that 10 refused
+  pub room-lasts : (o : Order) → readOrder b ≡ pass o → o .method ≡ Tao → Spaced o (informations (h .exchanges)) → ended (h .answers) ≡ as-stop (because 10) → informations (earlier (h .exchanges)) ≡ []
   -- "progress never skips a step"
   pub never-skips : (o : Order) → readOrder b ≡ pass o → Every (Unskipped (o .immed)) (h .exchanges) (h .last .answer)
   -- "No disc may be wiped for an order known to be bad"
@@ -297,11 +344,13 @@ pub record OfHistory (b : List ℕ) (rs : List Reply) (s : Next) : Type 0 where
   pub is-last : s ≡ history b rs .last
   pub whole : Whole b rs (history b rs)
 
--- `take`: the plain job's step, demand 3 of the empty list of replies, the exact count, and that replies exist for part 7
+-- `take`: the plain job's step, demand 3 of the empty list of replies, the exact count, that what is needed is what such a drive takes, and
+-- that replies exist for part 7
 pub record Takes (b : List ℕ) (s : Step) : Type 0 where
   pub step : nextIn s ≡ takeOf b
   pub begins : OfHistory b [] (nextIn s)
   pub script-length : (o : Order) → readOrder b ≡ pass o → length (script o) ≡ expected o
+  pub needs : (o : Order) → readOrder b ≡ pass o → (t a : ℕ) → a + needed o t ≡ lastEnd (o .method) a (toCome o t)
   pub can-pass : (o : Order) → readOrder b ≡ pass o → Recordable o → (p : ℕ) (d : DiscInformation) → Suitable o p d → (rs : List Reply) × Passing o p d rs
 
 -- `give`: the plain job's step; demand 3 of every history that this reply goes on with; and of every state, also one that no history
