@@ -3,7 +3,7 @@
 use mathlib.Core.Path.{_≡_}
 use mathlib.Core.Bool.{Bool, true, false}
 use mathlib.Core.List.{List, [], _∷_, _++_, map}
-use Prim.Native.Nat.{ℕ, _-_}
+use Prim.Native.Nat.{ℕ, suc, _-_}
 use lib.ListN.{length, getD, take, drop, replicate}
 use Rattle.mmc.specs.Bench as Layouts
 use Rattle.basics.specs.Bytes.{bytes32}
@@ -16,7 +16,7 @@ use Rattle.mmc.specs.declared.order.Kind.{Kind}
 use Rattle.mmc.specs.declared.order.Kind.the-variants.{Audio, Data}
 use Rattle.mmc.specs.declared.order.Method.{Method}
 use Rattle.mmc.specs.declared.order.Method.the-variants.{Tao, Sao}
-use Rattle.recorder.specs.Answers.{drive-failed, number, bytesOf}
+use Rattle.recorder.specs.Answers.{drive-failed, done, number, bytesOf}
 use Rattle.recorder.specs.declared.script.Op.{Op}
 use Rattle.recorder.specs.declared.script.Op.the-variants.{ModeSelect, SendCueSheet, CloseSession, Blank, TestUnitReady, RequestSense}
 use Rattle.recorder.specs.Script.{script, write as writing}
@@ -385,6 +385,55 @@ pub record EraseSheets : Type 0 where
       ∷ passesAt (immediate (flagged (order Tao (300 ∷ [])))) Blank Sense 0
       ∷ []
       ≡ replicate 3 false ++ (true ∷ true ∷ [])
+
+-- ---- document 02: what lies between tracks
+
+-- a track at once of three times 300 blocks, and its exchanges by what is said in the first track, in the second, and at the third 52h and k
+-- times behind it
+abbrev pub threeTracks : Order
+threeTracks = order Tao (300 ∷ 300 ∷ 300 ∷ [])
+
+abbrev pub threefold : Reply → Reply → ℕ → Reply → List Exchange
+threefold x y k z = played threeTracks (replicate 25 x ++ (replicate 23 y ++ replicate (suc k) z))
+
+-- the first refusal up to the third 52h
+abbrev pub atThird : Reply → Reply → Reply → ℕ
+atThird x y z = numberIn (refusal (pass threeTracks) (threefold x y 0 z))
+
+pub record ChargeSheets : Type 0 where
+  -- S and the charge equal to Free Blocks pass, one block less is 10: of three tracks, 900 + 2 x 152, and of 99, 29,700 + 98 x 152
+  pub first-free :
+      opened threeTracks (plain 0 0 1204)
+      ∷ opened threeTracks (plain 0 0 1203)
+      ∷ opened (order Tao (replicate 99 300)) (plain 0 0 44596)
+      ∷ opened (order Tao (replicate 99 300)) (plain 0 0 44595)
+      ∷ []
+      ≡ 0 ∷ 10 ∷ 0 ∷ 10 ∷ []
+  -- so at the second 52h, 600 + 152, and at the last one, where nothing is charged
+  pub later-free :
+      atThird (plain 0 0 1204) (plain 0 452 752) (plain 0 904 300)
+      ∷ atThird (plain 0 0 1204) (plain 0 452 751) (plain 0 904 300)
+      ∷ atThird (plain 0 0 1204) (plain 0 452 752) (plain 0 904 299)
+      ∷ []
+      ≡ 0 ∷ 10 ∷ 10 ∷ []
+  -- the same at the lead-out limit, with room: address, S and charge make 404,849, or one more
+  pub first-end : opened threeTracks (plain 1 403645 500000) ∷ opened threeTracks (plain 1 403646 500000) ∷ [] ≡ 0 ∷ 10 ∷ []
+  pub later-end :
+      atThird (plain 0 0 500000) (plain 0 404097 500000) (plain 0 404549 500000)
+      ∷ atThird (plain 0 0 500000) (plain 0 404098 500000) (plain 0 404549 500000)
+      ∷ atThird (plain 0 0 500000) (plain 0 404097 500000) (plain 0 404550 500000)
+      ∷ []
+      ≡ 0 ∷ 10 ∷ 10 ∷ []
+  -- SAO is not charged
+  pub session :
+      opened (order Sao (300 ∷ 300 ∷ 300 ∷ [])) (plain 0 0 900)
+      ∷ opened (order Sao (300 ∷ 300 ∷ 300 ∷ [])) (plain 0 0 899)
+      ∷ opened (order Sao (300 ∷ 404549 ∷ [])) (plain 0 0 404849)
+      ∷ opened (order Sao (300 ∷ 404550 ∷ [])) (plain 0 0 404850)
+      ∷ []
+      ≡ 0 ∷ 10 ∷ 0 ∷ 10 ∷ []
+  -- with just that room the job is done on a drive that starts each track 152 blocks after the last one ends
+  pub lasting : ruled (pass threeTracks) (threefold (plain 0 0 1204) (plain 0 452 752) 23 (plain 0 904 300)) ≡ done
 
 -- ---- document 01's sheets that are marked *, in its order, as one list with one statement. What the byte layouts say of a sheet
 -- stands by name in mmc's `Bench`
