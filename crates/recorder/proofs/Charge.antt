@@ -50,16 +50,19 @@ charged Sao a (x ∷ y ∷ xs) = let i = charged Sao (a + x .length .0) (y ∷ x
 pub needs-all : (o : Order) (t a : ℕ) → a + needed o t ≡ lastEnd (o .method) a (toCome o t)
 needs-all o t a = charged (o .method) a (toCome o t)
 
+pub needed-tao : (o : Order) (t : ℕ) → o .method ≡ Tao → needed o t ≡ blocksOf (toCome o t) + charge Tao (length (toCome o t))
+needed-tao o t e = ap (λ (m : Method). blocksOf (toCome o t) + charge m (length (toCome o t))) e
+
 -- one track less
-needed-less : (o : Order) (t : ℕ) → o .method ≡ Tao → length (tracksIn o) ≡ o .count → suc (suc t) ≤ o .count → needed o (suc t) ≡ pieceOf o (suc t) + driveGap + needed o (suc (suc t))
+pub needed-less : (o : Order) (t : ℕ) → o .method ≡ Tao → length (tracksIn o) ≡ o .count → suc (suc t) ≤ o .count → needed o (suc t) ≡ pieceOf o (suc t) + driveGap + needed o (suc (suc t))
 needed-less o t e n h =
     let a : suc t - 1 ≡ t = omega arith in
     let b : suc (suc t) - 1 ≡ suc t = omega arith in
     let l = blocks-less o t (omega arith) in
     let c = length-drop t (tracksIn o) in
     let d = length-drop (suc t) (tracksIn o) in
-    let x : needed o (suc t) ≡ blocksAfter o t + charge Tao (length (drop t (tracksIn o))) = ap (λ (k : ℕ). blocksAfter o k + charge (o .method) (length (drop k (tracksIn o)))) a ∙ ap (λ (m : Method). blocksAfter o t + charge m (length (drop t (tracksIn o)))) e in
-    let y : needed o (suc (suc t)) ≡ blocksAfter o (suc t) + charge Tao (length (drop (suc t) (tracksIn o))) = ap (λ (k : ℕ). blocksAfter o k + charge (o .method) (length (drop k (tracksIn o)))) b ∙ ap (λ (m : Method). blocksAfter o (suc t) + charge m (length (drop (suc t) (tracksIn o)))) e in
+    let x = needed-tao o (suc t) e ∙ ap (λ (k : ℕ). blocksAfter o k + charge Tao (length (drop k (tracksIn o)))) a in
+    let y = needed-tao o (suc (suc t)) e ∙ ap (λ (k : ℕ). blocksAfter o k + charge Tao (length (drop k (tracksIn o)))) b in
     omega arith
 
 -- ---- the 52h of a plan are for the tracks after the first k of n, in turn, and every 51h comes before them

@@ -1,12 +1,12 @@
 -- Good replies that the rules pass exist for every order that passes 8, 9 and the lead-out limit, on every disc that passes 5 and 6:
--- each 52h names where the track before ends, and all blocks are free; the first round of each polling is its last.
+-- the drive starts each track 152 blocks after the last one ends, and just what is needed is free; the first round of each polling is its last.
 use mathlib.Core.Path.{_≡_, refl, sym, ap, subst, _∙_}
 use mathlib.Core.Bool.{Bool, true, false, not, _&&_, _||_}
 use mathlib.Core.List.{List, [], _∷_, _++_}
 use Prim.Native.Nat.{ℕ, zero, suc, _+_, _-_, _*_, _/_, _%_, _≤_, _<_, max}
 use native.Mathlib.Omega.{arith}
-use borrow.Author.Tests.{le-ltb, le-leb, ltb-false, eqb-true, not-false}
-use lib.Dec.{ltb, leb, eqb, lit<, lit≤}
+use borrow.Author.Tests.{le-ltb, lt-ltb, le-leb, ltb-false, eqb-true, not-false}
+use lib.Dec.{ltb, eqb, lit<, lit≤}
 use lib.ListN.{length, drop, replicate, length-append, length-drop}
 use Rattle.basics.specs.Bytes.{if, be32}
 use Rattle.mmc.specs.Refusals.{pass}
@@ -32,18 +32,19 @@ use Rattle.recorder.specs.declared.replies.Reading.the-variants.{Malform
 use Rattle.recorder.specs.declared.exchanges.Seen.{Seen}
 use Rattle.recorder.specs.Answers.{Ruling}
 use Rattle.recorder.specs.Replies.{wholeProfile, readProfile, wholeDisc, discOf, readDisc, wholeInformation, informationOf, readInformation, progressOf, readProgress, reading}
-use Rattle.recorder.specs.Script.{code, isErasing, takesImmed, isPolled, gather, write, portion, blocks, blocksFrom, blocksIn, script}
+use Rattle.recorder.specs.Script.{code, trackIn, isErasing, takesImmed, isPolled, gather, write, portion, writesFor, writes, writesFrom, eachTrack, blocks, blocksFrom, blocksIn, script}
 use Rattle.recorder.specs.Exchanges.{Exchange, Named, see, seen, name, named}
 use Rattle.recorder.specs.Rules.{otherProfile, lastStatus, unsuitable, unusable, toCome, still, charge, needed, leadOut, lastFrame, fits, tooLong, used, notErasable, tested, erasingTests, blankTests, discTests, erases, erasingIf, openingTests, laterTests, Judgement, onward, trackTests, pollsIf, judge, judged, move, left, none, refusedBy, firstRefused, ruled, exchanged, play}
-use Rattle.recorder.specs.Places.{pieceEnded, beforeBlock, afterCloseTrack, opAfter, afterIn}
+use Rattle.recorder.specs.Places.{pieceEnded, beforeBlock, afterCloseTrack, opAfter, pieceOf, afterIn}
 use Rattle.recorder.specs.Job.{dueAt}
-use Rattle.recorder.specs.History.{AllMarkedGood, Bytes, AllBytes, discsIn, discs, Passing, Recordable, Suitable}
+use Rattle.recorder.specs.History.{driveGap, AllMarkedGood, Bytes, AllBytes, discsIn, discs, Passing, Recordable, Suitable}
 use Rattle.recorder.proofs.Lists.{if-yes, if-no, false-true, both, neither, Clear, clear-passes, blocks-length}
 use Rattle.recorder.proofs.Turns.{made, isAsking, Reads, malformed, profile, status, information, indication, ready, unread, reads, profile-seen, erased-seen}
 use Rattle.recorder.proofs.Scripts.{by, each-blocks}
 use Rattle.recorder.proofs.Rulings.{refused-next, ruled-at}
 use Rattle.recorder.proofs.Behind.{Sized, tracksFrom, behind, onto, next-track, goes-on}
 use Rattle.recorder.proofs.Standing.{blocksAfter, fits-within, Standing, StandingThen, standing-closing, stood, stood-polled}
+use Rattle.recorder.proofs.Charge.{needed-tao}
 use Rattle.recorder.proofs.Moves.{planAt, Stood, standing-goes, immed-at}
 
 -- ---- the bytes of the replies
@@ -152,20 +153,59 @@ track-ahead o (suc t) h l n =
     let k : t ≡ suc t - 1 = omega arith in
     ap ahead (sym (next-track (by o Tao) t (omega arith))) ∙ tracks-ahead (by o Tao) t ∙ ap (blocksAfter o) k
 
--- no later track is charged more than the first
-charge-less : (m : Method) (a b : ℕ) → a ≤ b → charge m a ≤ charge m b
-charge-less Tao a b h = omega arith
-charge-less Sao a b h = omega arith
+-- the 52h of later tracks that are ahead: what lies between tracks is taken there
+abbrev laterIn : Op → List Op
+laterIn x = if (eqb (code x) 0x52 && ltb 1 (trackIn x)) (x ∷ []) []
 
-charged-less : (o : Order) (t : ℕ) → charge (o .method) (length (toCome o t)) ≤ charge (o .method) (length (toCome o 1))
-charged-less o t =
-    let a = length-drop (t - 1) (tracksIn o) in
-    let b = length-drop 0 (tracksIn o) in
-    charge-less (o .method) _ _ (omega arith)
+abbrev gaps : List Op → ℕ
+gaps l = length (gather laterIn l)
 
--- room for what is ahead where each track begins right behind the one before, the first at address 0
+writes-gaps : (t l f k : ℕ) (m : List Op) → gaps (writes t l f k ++ m) ≡ gaps m
+writes-gaps t l f zero m = refl
+writes-gaps t l f (suc k) m = writes-gaps t l (f + portion l f) k m
+
+each-gaps : (o : Order) (t : ℕ) (xs : List Track) → gaps (eachTrack (by o Tao) (suc t) xs) ≡ length xs
+each-gaps o t [] = refl
+each-gaps o t (x ∷ xs) = ap (λ (b : Bool). length (if b (ReadTrackInformation u ∷ []) [] ++ gather laterIn (writesFrom (u .0) (x .length .0) 0 ++ rest))) (lt-ltb 1 (u .0) (omega arith)) ∙ ap suc (writes-gaps (u .0) (x .length .0) 0 (writesFor (x .length .0 - 0)) rest ∙ each-gaps o (suc t) xs)
+  where
+    u : TrackNumber
+    u = record { 0 = suc (suc t) }
+
+    rest : List Op
+    rest = SynchronizeCache u ∷ CloseTrack u ∷ eachTrack (by o Tao) (suc (suc t)) xs
+
+-- behind a 52h in TAO
+behind-gaps : (o : Order) (t : ℕ) → gaps (behind (by o Tao) (ReadTrackInformation (record { 0 = suc t }))) ≡ length (toCome o (suc t)) - 1
+behind-gaps o t =
+    let a = length-drop (suc t - 1) (tracksIn o) in
+    let b = length-drop (suc t) (tracksIn o) in
+    let k : length (drop (suc t) (tracksIn o)) ≡ length (toCome o (suc t)) - 1 = omega arith in
+    writes-gaps (suc t) (pieceOf o (suc t)) 0 (writesFor (pieceOf o (suc t) - 0)) (SynchronizeCache (record { 0 = suc t }) ∷ CloseTrack (record { 0 = suc t }) ∷ tracksFrom (by o Tao) (suc t)) ∙
+    each-gaps o t (drop (suc t) (tracksIn o)) ∙
+    k
+
+-- all that is taken ahead, blocks and what lies between tracks
+abbrev space : List Op → ℕ
+space l = ahead l + driveGap * gaps l
+
+-- from the track t on
+abbrev spaceFrom : Order → ℕ → ℕ
+spaceFrom o t = blocksOf (toCome o t) + charge Tao (length (toCome o t))
+
+track-space : (o : Order) (t : ℕ) → 1 ≤ t → t ≤ o .count → length (tracksIn o) ≡ o .count → space (behind (by o Tao) (ReadTrackInformation (record { 0 = t }))) ≡ spaceFrom o t
+track-space o zero h l n = absurd (omega arith)
+track-space o (suc t) h l n = let a = track-ahead o (suc t) h l n in let b = behind-gaps o t in omega arith
+
+space-more : (t : TrackNumber) (l : List Op) → space l ≤ space (ReadTrackInformation t ∷ l)
+space-more t l = go (ltb 1 (t .0))
+  where
+    go : (b : Bool) → space l ≤ ahead l + driveGap * length (if b (ReadTrackInformation t ∷ []) [] ++ gather laterIn l)
+    go true = omega arith
+    go false = omega arith
+
+-- room for what is ahead, the first track at address 0
 abbrev RoomBy : Method → Order → FrameCount → List Op → Type 0
-RoomBy Tao o at l = max (at .0) leadFrames + ahead l ≤ leadFrames + blocksOf (tracksIn o)
+RoomBy Tao o at l = max (at .0) leadFrames + space l ≤ leadFrames + spaceFrom o 1
 RoomBy Sao o at l = Unit {0}
 
 -- an operation that stands takes off what it puts
@@ -283,9 +323,15 @@ module _ (o : Order) (z : Sized o) (ok : Recordable o) (p : ℕ) (d : DiscInform
       go true = let h = low-status in omega arith
       go false = let h = low-status in omega arith
 
-  -- all that is needed, which is free to the end
+  -- all that is needed, and what was taken before the track t
   abbrev all : ℕ
   all = needed o 1
+
+  abbrev taken : ℕ → ℕ
+  taken t = all - needed o t
+
+  low-taken : (t : ℕ) → taken t < 4294967296
+  low-taken t = let e = ok .ends in omega arith
 
   -- 46h is told the profile; bit 0 of the same byte is NWA_V
   abbrev seventh : Op → ℕ
@@ -293,7 +339,7 @@ module _ (o : Order) (z : Sized o) (ok : Recordable o) (p : ℕ) (d : DiscInform
 
   -- 03h is told that there is no progress
   abbrev told : Op → Seen → List ℕ
-  told x v = if (eqb (code x) 0x03) (replicate 18 0) (naming (seventh x) (second v) (v .at .0 - leadFrames) all)
+  told x v = if (eqb (code x) 0x03) (replicate 18 0) (naming (seventh x) (second v) (taken (trackIn x)) (needed o (trackIn x)))
 
   abbrev replyTo : Op → Seen → Reply
   replyTo x v = replyOf true (told x v)
@@ -305,28 +351,28 @@ module _ (o : Order) (z : Sized o) (ok : Recordable o) (p : ℕ) (d : DiscInform
       go true = low-profile
       go false = lit< tt
 
-      by-code : (b : Bool) → Bytes (if b (replicate 18 0) (naming (seventh x) (second v) (v .at .0 - leadFrames) all))
+      by-code : (b : Bool) → Bytes (if b (replicate 18 0) (naming (seventh x) (second v) (taken (trackIn x)) (needed o (trackIn x))))
       by-code true = low-bytes (low-zeros 18)
-      by-code false = naming-bytes (seventh x) (second v) (v .at .0 - leadFrames) all (go (eqb (code x) 0x46)) (low-second (v .erased))
+      by-code false = naming-bytes (seventh x) (second v) (taken (trackIn x)) (needed o (trackIn x)) (go (eqb (code x) 0x46)) (low-second (v .erased))
 
   -- ---- the tests of a 52h
 
   abbrev informed : ℕ → ℕ → TrackInformation
-  informed q at = informationOf (naming 9 q (at - leadFrames) all)
+  informed q t = informationOf (naming 9 q (taken t) (needed o t))
 
-  usable-so : (m : Method) (q : ℕ) (at : FrameCount) → at .0 < 4294967296 → unusable m at (informed q (at .0)) ≡ false
+  usable-so : (m : Method) (q t : ℕ) (at : FrameCount) → at .0 ≤ taken t + leadFrames → unusable m at (informed q t) ≡ false
   unfolding unusable informationOf
-  usable-so Tao q at h =
-      let s = named-start 9 q (at .0 - leadFrames) all (omega arith) in
-      let l : at .0 ≤ framesTo (informed q (at .0) .address) .0 = omega arith in
+  usable-so Tao q t at h =
+      let s = named-start 9 q (taken t) (needed o t) (low-taken t) in
+      let l : at .0 ≤ framesTo (informed q t .address) .0 = omega arith in
       le-ltb _ _ l
-  usable-so Sao q at h = refl
+  usable-so Sao q t at h = refl
 
-  fits-so : (m : Method) (q s at : ℕ) → s ≤ all → at < 4294967296 → leadOut m s (informed q at) ≤ lastFrame → not (fits m s (informed q at)) ≡ false
-  fits-so m q s at h k l =
+  fits-so : (m : Method) (q t : ℕ) → needed o t ≤ all → leadOut m (needed o t) (informed q t) ≤ lastFrame → not (fits m (needed o t) (informed q t)) ≡ false
+  fits-so m q t h l =
       let e = ok .ends in
-      let f = named-free 9 q (at - leadFrames) all (omega arith) in
-      fits-within m s (informed q at) (omega arith) l
+      let f = named-free 9 q (taken t) (needed o t) (omega arith) in
+      fits-within m (needed o t) (informed q t) (omega arith) l
 
   -- all or some of the tests pass
   clear-by : (t : ℕ) (v : Seen) (i : TrackInformation) → v .profile ≡ p → (o .erase ≡ false → v .status ≡ d .status) → unusable (o .method) (v .at) i ≡ false → not (fits (o .method) (needed o t) i) ≡ false → Clear (trackTests o t v i)
@@ -337,24 +383,31 @@ module _ (o : Order) (z : Sized o) (ok : Recordable o) (p : ℕ) (d : DiscInform
       go true true e = (u, (f, tt))
       go false w e = (u, (f, tt))
 
-  clear-52 : (m : Method) → o .method ≡ m → (t : TrackNumber) (v : Seen) (n : Named) → Standing m (by o m) (ReadTrackInformation t) v n → RoomBy m o (v .at) (ReadTrackInformation t ∷ behind (by o m) (ReadTrackInformation t)) → v .profile ≡ p → (o .erase ≡ false → v .status ≡ d .status) → Clear (trackTests o (t .0) v (informed (second v) (v .at .0)))
-  clear-52 Tao e t v n s r a b =
-      let k = track-ahead o (t .0) (s .one) (s .few) (z .all) in
-      let g = charged-less o (t .0) in
+  -- what a 52h needs is there, and it begins behind the last block
+  record Here (m : Method) (t : ℕ) (v : Seen) : Type 0 where
+    within : needed o t ≤ all
+    past : v .at .0 ≤ taken t + leadFrames
+    ends : leadOut m (needed o t) (informed (second v) t) ≤ lastFrame
+
+  here : (m : Method) → o .method ≡ m → (t : TrackNumber) (v : Seen) (n : Named) → Standing m (by o m) (ReadTrackInformation t) v n → RoomBy m o (v .at) (ReadTrackInformation t ∷ behind (by o m) (ReadTrackInformation t)) → Here m (t .0) v
+  here Tao e t v n s r =
+      let k = track-space o (t .0) (s .one) (s .few) (z .all) in
+      let g = space-more t (behind (by o Tao) (ReadTrackInformation t)) in
+      let x = needed-tao o (t .0) e in
+      let y = needed-tao o 1 e in
       let w = ok .ends in
-      let h : v .at .0 < 4294967296 = omega arith in
-      let c = named-start 9 (second v) (v .at .0 - leadFrames) all (omega arith) in
-      let l : leadOut Tao (needed o (t .0)) (informed (second v) (v .at .0)) ≤ lastFrame = omega arith in
-      clear-by (t .0) v (informed (second v) (v .at .0)) a b (ap (λ (x : Method). unusable x (v .at) (informed (second v) (v .at .0))) e ∙ usable-so Tao (second v) (v .at) h)
-      (ap (λ (x : Method). not (fits x (needed o (t .0)) (informed (second v) (v .at .0)))) e ∙ fits-so Tao (second v) (needed o (t .0)) (v .at .0) (omega arith) h l)
-  clear-52 Sao e t v n s r a b =
+      let c = named-start 9 (second v) (taken (t .0)) (needed o (t .0)) (low-taken (t .0)) in
+      record { within = omega arith; past = omega arith; ends = omega arith }
+  here Sao e t v n s r =
       let w = ok .ends in
       let g = s .1 in
-      let h : v .at .0 < 4294967296 = omega arith in
       let k : needed o (t .0) ≡ all = ap (needed o) (s .0) in
-      let l : leadOut Sao (needed o (t .0)) (informed (second v) (v .at .0)) ≤ lastFrame = omega arith in
-      clear-by (t .0) v (informed (second v) (v .at .0)) a b (ap (λ (x : Method). unusable x (v .at) (informed (second v) (v .at .0))) e ∙ usable-so Sao (second v) (v .at) h)
-      (ap (λ (x : Method). not (fits x (needed o (t .0)) (informed (second v) (v .at .0)))) e ∙ fits-so Sao (second v) (needed o (t .0)) (v .at .0) (omega arith) h l)
+      record { within = omega arith; past = omega arith; ends = omega arith }
+
+  clear-52 : (m : Method) → o .method ≡ m → (t : ℕ) (v : Seen) → Here m t v → v .profile ≡ p → (o .erase ≡ false → v .status ≡ d .status) → Clear (trackTests o t v (informed (second v) t))
+  clear-52 m e t v h a b =
+      clear-by t v (informed (second v) t) a b (ap (λ (x : Method). unusable x (v .at) (informed (second v) t)) e ∙ usable-so m (second v) t (v .at) (h .past))
+      (ap (λ (x : Method). not (fits x (needed o t) (informed (second v) t))) e ∙ fits-so m (second v) t (h .within) (h .ends))
 
   -- ---- the tests of a 51h
 
@@ -378,12 +431,12 @@ module _ (o : Order) (z : Sized o) (ok : Recordable o) (p : ℕ) (d : DiscInform
           ap (λ (c : Bool). tested (if c (blankTests d) (erasingTests o (v .profile) d)) (erasingIf (not c && used (d .status)))) f ∙
           clear-passes (erasingTests o (v .profile) d) (erasingIf (used (d .status))) (early-clear v a e)
 
-  reads-51 : (v : Seen) → readDisc (naming 9 (second v) (v .at .0 - leadFrames) all) ≡ Disc (discFor (v .erased))
+  reads-51 : (v : Seen) → readDisc (naming 9 (second v) (taken 0) (needed o 0)) ≡ Disc (discFor (v .erased))
   reads-51 v = go (v .erased)
     where
-      go : (b : Bool) → readDisc (naming 9 (secondBy b) (v .at .0 - leadFrames) all) ≡ Disc (discFor b)
-      go true = named-disc 9 0 (v .at .0 - leadFrames) all 0 false (lit≤ tt) refl
-      go false = named-disc 9 (secondBy false) (v .at .0 - leadFrames) all (d .status) (d .erasable) low-status refl
+      go : (b : Bool) → readDisc (naming 9 (secondBy b) (taken 0) (needed o 0)) ≡ Disc (discFor b)
+      go true = named-disc 9 0 (taken 0) (needed o 0) 0 false (lit≤ tt) refl
+      go false = named-disc 9 (secondBy false) (taken 0) (needed o 0) (d .status) (d .erasable) low-status refl
 
   -- ---- one reply more
 
@@ -410,7 +463,7 @@ module _ (o : Order) (z : Sized o) (ok : Recordable o) (p : ℕ) (d : DiscInform
     knows : Known (see (o .method) x r v) (ds ++ discsIn r)
     room : RoomBy (o .method) o (see (o .method) x r v .at) (behind o x)
 
-  same-room : (m : Method) (at : FrameCount) (x : Op) (l : List Op) → ahead (x ∷ l) ≡ ahead l → RoomBy m o at (x ∷ l) → RoomBy m o at l
+  same-room : (m : Method) (at : FrameCount) (x : Op) (l : List Op) → space (x ∷ l) ≡ space l → RoomBy m o at (x ∷ l) → RoomBy m o at l
   same-room Tao at x l e r = omega arith
   same-room Sao at x l e r = tt
 
@@ -418,14 +471,16 @@ module _ (o : Order) (z : Sized o) (ok : Recordable o) (p : ℕ) (d : DiscInform
   erasing-room Tao at l r = r
   erasing-room Sao at l r = tt
 
-  -- after a 52h the track starts where the one before ended
-  start-room : (m : Method) (t : TrackNumber) (v : Seen) (l : List Op) → v .at .0 < 4294967296 → RoomBy m o (v .at) (ReadTrackInformation t ∷ l) → RoomBy m o (see m (ReadTrackInformation t) (Information (informed (second v) (v .at .0))) v .at) l
-  start-room Tao t v l h r = let c = named-start 9 (second v) (v .at .0 - leadFrames) all (omega arith) in omega arith
-  start-room Sao t v l h r = tt
-
-  early : (m : Method) (t : TrackNumber) (v : Seen) (n : Named) (l : List Op) → Standing m (by o m) (ReadTrackInformation t) v n → RoomBy m o (v .at) l → v .at .0 < 4294967296
-  early Tao t v n l s r = let w = ok .ends in omega arith
-  early Sao t v n l s r = let g = s .1 in omega arith
+  -- after a 52h just what is needed is ahead
+  start-room : (m : Method) → o .method ≡ m → (t : TrackNumber) (v : Seen) (n : Named) → Standing m (by o m) (ReadTrackInformation t) v n → Here m (t .0) v → RoomBy m o (see m (ReadTrackInformation t) (Information (informed (second v) (t .0))) v .at) (behind (by o m) (ReadTrackInformation t))
+  start-room Tao e t v n s h =
+      let k = track-space o (t .0) (s .one) (s .few) (z .all) in
+      let x = needed-tao o (t .0) e in
+      let y = needed-tao o 1 e in
+      let w = h .within in
+      let c = named-start 9 (second v) (taken (t .0)) (needed o (t .0)) (low-taken (t .0)) in
+      omega arith
+  start-room Sao e t v n s h = tt
 
   unread-room : (m : Method) (x : Op) (v : Seen) (n : Named) → Standing m (by o m) x v n → RoomBy m o (v .at) (x ∷ behind (by o m) x) → isAsking x ≡ false → RoomBy m o (see m x Unread v .at) (behind (by o m) x)
   unread-room Tao x v n s r e = room-on o x v n s r e
@@ -468,7 +523,7 @@ module _ (o : Order) (z : Sized o) (ok : Recordable o) (p : ℕ) (d : DiscInform
 
   told-next : (x : Op) (v : Seen) (ds : Discs) (n : Named) → Standing (o .method) o x v n → isErasing x ≡ false → Known v ds → RoomBy (o .method) o (v .at) (x ∷ behind o x) → ToldBy x v ds
   told-next GetConfiguration v ds n s i k r =
-      subst (Told GetConfiguration v ds) (sym (named-profile p (second v) (v .at .0 - leadFrames) all))
+      subst (Told GetConfiguration v ds) (sym (named-profile p (second v) (taken 0) (needed o 0)))
       (record {
         passes = refl;
         knows = record { profile-known = refl; status-known = k .status-known; erased-known = k .erased-known; discs-known = more-discs ds [] (k .discs-known) };
@@ -476,11 +531,12 @@ module _ (o : Order) (z : Sized o) (ok : Recordable o) (p : ℕ) (d : DiscInform
       })
   told-next ReadDiscInformation v ds n s i k r = subst (Told ReadDiscInformation v ds) (sym (reads-51 v)) (told-51 v ds k r)
   told-next (ReadTrackInformation t) v ds n s i k r =
-      subst (Told (ReadTrackInformation t) v ds) (sym (named-whole 9 (second v) (v .at .0 - leadFrames) all))
-      (record {
-        passes = clear-passes (trackTests o (t .0) v (informed (second v) (v .at .0))) [] (clear-52 (o .method) refl t v n s r (k .profile-known) (k .status-known));
+      subst (Told (ReadTrackInformation t) v ds) (sym (named-whole 9 (second v) (taken (t .0)) (needed o (t .0))))
+      (let h = here (o .method) refl t v n s r in
+      record {
+        passes = clear-passes (trackTests o (t .0) v (informed (second v) (t .0))) [] (clear-52 (o .method) refl (t .0) v h (k .profile-known) (k .status-known));
         knows = record { profile-known = k .profile-known; status-known = k .status-known; erased-known = k .erased-known; discs-known = more-discs ds [] (k .discs-known) };
-        room = start-room (o .method) t v _ (early (o .method) t v n _ s r) r;
+        room = start-room (o .method) refl t v n s h;
       })
   told-next (ModeSelect t) v ds n s i k r = told-unread (ModeSelect t) v ds n s i k r refl
   told-next SendCueSheet v ds n s i k r = told-unread SendCueSheet v ds n s i k r refl
@@ -631,7 +687,7 @@ module _ (o : Order) (z : Sized o) (ok : Recordable o) (p : ℕ) (d : DiscInform
   -- 46h, and the first 51h
   led-first : (c : ℕ) (v : Seen) (n : Named) (ds : Discs) → Standing (o .method) o GetConfiguration v n → v .erased ≡ false → ds ≡ [] → RoomAt Off GetConfiguration (v .at) → c ≡ weigh (planAt o GetConfiguration Off) + wiping → LedBy c GetConfiguration Off v n ds (readingTo GetConfiguration v)
   led-first c v n ds s e i r q =
-      subst (LedBy c GetConfiguration Off v n ds) (sym (named-profile p (second v) (v .at .0 - leadFrames) all))
+      subst (LedBy c GetConfiguration Off v n ds) (sym (named-profile p (second v) (taken 0) (needed o 0)))
       (record {
         unrefusing = refl;
         stage = at-disc refl s refl e (ap (λ (l : Discs). l ++ []) i) (same-room (o .method) (v .at) GetConfiguration _ refl r) (omega arith);
@@ -748,8 +804,16 @@ module _ (o : Order) (z : Sized o) (ok : Recordable o) (p : ℕ) (d : DiscInform
     marked : AllMarkedGood (replies k)
     packed : Packed (total - k) (play (pass o) [] (replies k))
 
+  first-space : RoomBy Tao o (record { 0 = 0 }) (script (by o Tao))
+  first-space =
+      let h = z .some in
+      let n = z .all in
+      let e = next-track (by o Tao) 0 (omega arith) in
+      let k = track-space o 1 (omega arith) (z .some) (z .all) in
+      subst (λ (l : List Op). leadFrames + space l ≤ leadFrames + spaceFrom o 1) (sym e) (omega arith)
+
   first-room : (m : Method) → RoomBy m o (record { 0 = 0 }) (script (by o m))
-  first-room Tao = let e = tracks-ahead (by o Tao) 0 in omega arith
+  first-room Tao = first-space
   first-room Sao = tt
 
   fine : (k : ℕ) → Fine k
