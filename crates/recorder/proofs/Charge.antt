@@ -67,14 +67,14 @@ needed-less o t e n h =
 
 -- ---- the 52h of a plan are for the tracks after the first k of n, in turn, and every 51h comes before them
 
-record Due (n k : ℕ) (x : Op) : Type 0 where
-  track : eqb (code x) 0x52 ≡ true → (trackIn x ≡ suc k) × (trackIn x ≤ n)
-  disc : eqb (code x) 0x51 ≡ true → k ≡ 0
+pub record Due (n k : ℕ) (x : Op) : Type 0 where
+  pub track : eqb (code x) 0x52 ≡ true → (trackIn x ≡ suc k) × (trackIn x ≤ n)
+  pub disc : eqb (code x) 0x51 ≡ true → k ≡ 0
 
-abbrev next : ℕ → Op → ℕ
+abbrev pub next : ℕ → Op → ℕ
 next k x = if (eqb (code x) 0x52) (suc k) k
 
-abbrev InTurn : ℕ → ℕ → List Op → Type 0
+abbrev pub InTurn : ℕ → ℕ → List Op → Type 0
 InTurn n k [] = Unit {0}
 InTurn n k (x ∷ l) = Due n k x × InTurn n (next k x) l
 
@@ -105,13 +105,13 @@ script-turn o e n = go (o .method) e
 
 -- ---- what was said at the latest 52h, which passed
 
-data Latest (o : Order) (is : List TrackInformation) : Type 0 where
+pub data Latest (o : Order) (is : List TrackInformation) : Type 0 where
   unsaid : is ≡ [] → Latest o is
   said : (before : List TrackInformation) (i : TrackInformation) → is ≡ before ++ (i ∷ []) → not (fits (o .method) (needed o (suc (length before))) i) ≡ false → Latest o is
 
-record Heard (o : Order) (l : List Op) (is : List TrackInformation) : Type 0 where
-  in-turn : InTurn (o .count) (length is) l
-  latest : Latest o is
+pub record Heard (o : Order) (l : List Op) (is : List TrackInformation) : Type 0 where
+  pub in-turn : InTurn (o .count) (length is) l
+  pub latest : Latest o is
 
 -- nothing more is said
 unheard : {o : Order} {l : List Op} {is : List TrackInformation} → Heard o l is → Heard o l (is ++ [])
@@ -162,7 +162,7 @@ module _ (o : Order) (v : Seen) (is : List TrackInformation) where
       unasked : (x : Op) → isAsking x ≡ false → next (length is) x ≡ length is
       unasked x q = if-no _ _ (neither (eqb (code x) 0x52) _ (neither (eqb (code x) 0x51) _ (neither (eqb (code x) 0x46) _ q .1) .1) .0)
 
-heard : (o : Order) (es : List Exchange) → o .method ≡ Tao → length (tracksIn o) ≡ o .count → Played o es → firstRefused o es ≡ none → Heard o (left o es) (informations es)
+pub heard : (o : Order) (es : List Exchange) → o .method ≡ Tao → length (tracksIn o) ≡ o .count → Played o es → firstRefused o es ≡ none → Heard o (left o es) (informations es)
 heard o es e n nothing u = record { in-turn = script-turn o e n; latest = unsaid refl }
 heard o es e n (then {es = before} {x = x} {l = l} p w q y) u =
     subst (λ (m : List Op). Heard o (move (judged o before (made o before x y)) m) (informations before ++ informationsIn (reading x y))) (sym q)

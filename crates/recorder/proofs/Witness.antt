@@ -37,14 +37,14 @@ use Rattle.recorder.specs.Exchanges.{Exchange, Named, see, seen, name, n
 use Rattle.recorder.specs.Rules.{otherProfile, lastStatus, unsuitable, unusable, toCome, still, charge, needed, leadOut, lastFrame, fits, tooLong, used, notErasable, tested, erasingTests, blankTests, discTests, erases, erasingIf, openingTests, laterTests, Judgement, onward, trackTests, pollsIf, judge, judged, move, left, none, refusedBy, firstRefused, ruled, exchanged, play}
 use Rattle.recorder.specs.Places.{pieceEnded, beforeBlock, afterCloseTrack, opAfter, pieceOf, afterIn}
 use Rattle.recorder.specs.Job.{dueAt}
-use Rattle.recorder.specs.History.{driveGap, AllMarkedGood, Bytes, AllBytes, discsIn, discs, Passing, Recordable, Suitable}
-use Rattle.recorder.proofs.Lists.{if-yes, if-no, false-true, both, neither, Clear, clear-passes, blocks-length}
-use Rattle.recorder.proofs.Turns.{made, isAsking, Reads, malformed, profile, status, information, indication, ready, unread, reads, profile-seen, erased-seen}
+use Rattle.recorder.specs.History.{informationsIn, informations, driveGap, Follows, Spaced, AllMarkedGood, Bytes, AllBytes, discsIn, discs, Passing, Recordable, Suitable}
+use Rattle.recorder.proofs.Lists.{if-yes, if-no, false-true, both, neither, Clear, clear-passes, nothing-after, blocks-length}
+use Rattle.recorder.proofs.Turns.{made, Played, played, isAsking, Reads, busy, not-ready, failed, malformed, profile, status, information, indication, ready, unread, reads, profile-seen, erased-seen}
 use Rattle.recorder.proofs.Scripts.{by, each-blocks}
 use Rattle.recorder.proofs.Rulings.{refused-next, ruled-at}
 use Rattle.recorder.proofs.Behind.{Sized, tracksFrom, behind, onto, next-track, goes-on}
 use Rattle.recorder.proofs.Standing.{blocksAfter, fits-within, Standing, StandingThen, standing-closing, stood, stood-polled}
-use Rattle.recorder.proofs.Charge.{needed-tao}
+use Rattle.recorder.proofs.Charge.{needed-tao, needed-less, Due, Heard, heard}
 use Rattle.recorder.proofs.Moves.{planAt, Stood, standing-goes, immed-at}
 
 -- ---- the bytes of the replies
@@ -183,6 +183,24 @@ behind-gaps o t =
     writes-gaps (suc t) (pieceOf o (suc t)) 0 (writesFor (pieceOf o (suc t) - 0)) (SynchronizeCache (record { 0 = suc t }) ∷ CloseTrack (record { 0 = suc t }) ∷ tracksFrom (by o Tao) (suc t)) ∙
     each-gaps o t (drop (suc t) (tracksIn o)) ∙
     k
+
+-- from no track on more is needed than from the first
+drop-less : (k : ℕ) (xs : List Track) → blocksOf (drop k xs) ≤ blocksOf xs
+unfolding blocksOf
+drop-less zero xs = omega arith
+drop-less (suc k) [] = omega arith
+drop-less (suc k) (x ∷ xs) = let i = drop-less k xs in omega arith
+
+charge-less : (m : Method) (a b : ℕ) → a ≤ b → charge m a ≤ charge m b
+charge-less Tao a b h = omega arith
+charge-less Sao a b h = omega arith
+
+needed-most : (o : Order) (t : ℕ) → needed o t ≤ needed o 1
+needed-most o t =
+    let a = length-drop (t - 1) (tracksIn o) in
+    let b = drop-less (t - 1) (tracksIn o) in
+    let c = charge-less (o .method) (length (toCome o t)) (length (toCome o 1)) (omega arith) in
+    omega arith
 
 -- all that is taken ahead, blocks and what lies between tracks
 abbrev space : List Op → ℕ
@@ -368,11 +386,26 @@ module _ (o : Order) (z : Sized o) (ok : Recordable o) (p : ℕ) (d : DiscInform
       le-ltb _ _ l
   usable-so Sao q t at h = refl
 
-  fits-so : (m : Method) (q t : ℕ) → needed o t ≤ all → leadOut m (needed o t) (informed q t) ≤ lastFrame → not (fits m (needed o t) (informed q t)) ≡ false
-  fits-so m q t h l =
+  fits-so : (m : Method) (q t : ℕ) → leadOut m (needed o t) (informed q t) ≤ lastFrame → not (fits m (needed o t) (informed q t)) ≡ false
+  fits-so m q t l =
       let e = ok .ends in
+      let h = needed-most o t in
       let f = named-free 9 q (taken t) (needed o t) (omega arith) in
       fits-within m (needed o t) (informed q t) (omega arith) l
+
+  -- what a 52h is told of the track t
+  record Said (t : ℕ) (i : TrackInformation) : Type 0 where
+    few : t ≤ o .count
+    start : framesTo (i .address) .0 + needed o t ≡ leadFrames + all
+    free : i .free .0 ≡ needed o t
+
+  said-so : (q t : ℕ) → t ≤ o .count → Said t (informed q t)
+  said-so q t l =
+      let e = ok .ends in
+      let h = needed-most o t in
+      let s = named-start 9 q (taken t) (needed o t) (low-taken t) in
+      let f = named-free 9 q (taken t) (needed o t) (omega arith) in
+      record { few = l; start = omega arith; free = f }
 
   -- all or some of the tests pass
   clear-by : (t : ℕ) (v : Seen) (i : TrackInformation) → v .profile ≡ p → (o .erase ≡ false → v .status ≡ d .status) → unusable (o .method) (v .at) i ≡ false → not (fits (o .method) (needed o t) i) ≡ false → Clear (trackTests o t v i)
@@ -385,7 +418,6 @@ module _ (o : Order) (z : Sized o) (ok : Recordable o) (p : ℕ) (d : DiscInform
 
   -- what a 52h needs is there, and it begins behind the last block
   record Here (m : Method) (t : ℕ) (v : Seen) : Type 0 where
-    within : needed o t ≤ all
     past : v .at .0 ≤ taken t + leadFrames
     ends : leadOut m (needed o t) (informed (second v) t) ≤ lastFrame
 
@@ -397,17 +429,17 @@ module _ (o : Order) (z : Sized o) (ok : Recordable o) (p : ℕ) (d : DiscInform
       let y = needed-tao o 1 e in
       let w = ok .ends in
       let c = named-start 9 (second v) (taken (t .0)) (needed o (t .0)) (low-taken (t .0)) in
-      record { within = omega arith; past = omega arith; ends = omega arith }
+      record { past = omega arith; ends = omega arith }
   here Sao e t v n s r =
       let w = ok .ends in
       let g = s .1 in
       let k : needed o (t .0) ≡ all = ap (needed o) (s .0) in
-      record { within = omega arith; past = omega arith; ends = omega arith }
+      record { past = omega arith; ends = omega arith }
 
   clear-52 : (m : Method) → o .method ≡ m → (t : ℕ) (v : Seen) → Here m t v → v .profile ≡ p → (o .erase ≡ false → v .status ≡ d .status) → Clear (trackTests o t v (informed (second v) t))
   clear-52 m e t v h a b =
       clear-by t v (informed (second v) t) a b (ap (λ (x : Method). unusable x (v .at) (informed (second v) t)) e ∙ usable-so m (second v) t (v .at) (h .past))
-      (ap (λ (x : Method). not (fits x (needed o t) (informed (second v) t))) e ∙ fits-so m (second v) t (h .within) (h .ends))
+      (ap (λ (x : Method). not (fits x (needed o t) (informed (second v) t))) e ∙ fits-so m (second v) t (h .ends))
 
   -- ---- the tests of a 51h
 
@@ -472,15 +504,15 @@ module _ (o : Order) (z : Sized o) (ok : Recordable o) (p : ℕ) (d : DiscInform
   erasing-room Sao at l r = tt
 
   -- after a 52h just what is needed is ahead
-  start-room : (m : Method) → o .method ≡ m → (t : TrackNumber) (v : Seen) (n : Named) → Standing m (by o m) (ReadTrackInformation t) v n → Here m (t .0) v → RoomBy m o (see m (ReadTrackInformation t) (Information (informed (second v) (t .0))) v .at) (behind (by o m) (ReadTrackInformation t))
-  start-room Tao e t v n s h =
+  start-room : (m : Method) → o .method ≡ m → (t : TrackNumber) (v : Seen) (n : Named) → Standing m (by o m) (ReadTrackInformation t) v n → RoomBy m o (see m (ReadTrackInformation t) (Information (informed (second v) (t .0))) v .at) (behind (by o m) (ReadTrackInformation t))
+  start-room Tao e t v n s =
       let k = track-space o (t .0) (s .one) (s .few) (z .all) in
       let x = needed-tao o (t .0) e in
       let y = needed-tao o 1 e in
-      let w = h .within in
+      let w = needed-most o (t .0) in
       let c = named-start 9 (second v) (taken (t .0)) (needed o (t .0)) (low-taken (t .0)) in
       omega arith
-  start-room Sao e t v n s h = tt
+  start-room Sao e t v n s = tt
 
   unread-room : (m : Method) (x : Op) (v : Seen) (n : Named) → Standing m (by o m) x v n → RoomBy m o (v .at) (x ∷ behind (by o m) x) → isAsking x ≡ false → RoomBy m o (see m x Unread v .at) (behind (by o m) x)
   unread-room Tao x v n s r e = room-on o x v n s r e
@@ -532,11 +564,10 @@ module _ (o : Order) (z : Sized o) (ok : Recordable o) (p : ℕ) (d : DiscInform
   told-next ReadDiscInformation v ds n s i k r = subst (Told ReadDiscInformation v ds) (sym (reads-51 v)) (told-51 v ds k r)
   told-next (ReadTrackInformation t) v ds n s i k r =
       subst (Told (ReadTrackInformation t) v ds) (sym (named-whole 9 (second v) (taken (t .0)) (needed o (t .0))))
-      (let h = here (o .method) refl t v n s r in
-      record {
-        passes = clear-passes (trackTests o (t .0) v (informed (second v) (t .0))) [] (clear-52 (o .method) refl (t .0) v h (k .profile-known) (k .status-known));
+      (record {
+        passes = clear-passes (trackTests o (t .0) v (informed (second v) (t .0))) [] (clear-52 (o .method) refl (t .0) v (here (o .method) refl t v n s r) (k .profile-known) (k .status-known));
         knows = record { profile-known = k .profile-known; status-known = k .status-known; erased-known = k .erased-known; discs-known = more-discs ds [] (k .discs-known) };
-        room = start-room (o .method) refl t v n s h;
+        room = start-room (o .method) refl t v n s;
       })
   told-next (ModeSelect t) v ds n s i k r = told-unread (ModeSelect t) v ds n s i k r refl
   told-next SendCueSheet v ds n s i k r = told-unread SendCueSheet v ds n s i k r refl
@@ -796,6 +827,75 @@ module _ (o : Order) (z : Sized o) (ok : Recordable o) (p : ℕ) (d : DiscInform
   reply-good [] v = refl
   reply-good (x ∷ l) v = refl
 
+  -- ---- each 52h is told what was taken and what is needed
+
+  abbrev Says : ℕ → List TrackInformation → Type 0
+  Says t [] = Unit {0}
+  Says t (i ∷ is) = Said (suc t) i × Says (suc t) is
+
+  says-snoc : (t : ℕ) (is : List TrackInformation) (i : TrackInformation) → Says t is → Said (suc (t + length is)) i → Says t (is ++ (i ∷ []))
+  says-snoc t [] i s h = let e : suc (t + 0) ≡ suc t = omega arith in (subst (λ (k : ℕ). Said k i) e h, tt)
+  says-snoc t (x ∷ is) i s h = let e : suc (t + suc (length is)) ≡ suc (suc t + length is) = omega arith in (s .0, says-snoc (suc t) is i (s .1) (subst (λ (k : ℕ). Said k i) e h))
+
+  says-spaced : o .method ≡ Tao → (t : ℕ) (before after : List TrackInformation) (i j : TrackInformation) → Says t (before ++ (i ∷ j ∷ after)) → Follows (pieceOf o (suc (t + length before))) i j
+  says-spaced e t [] after i j s =
+      let h = needed-less o t e (z .all) (s .1 .0 .few) in
+      let a = s .0 in
+      let b = s .1 .0 in
+      let k : suc t ≡ suc (t + 0) = omega arith in
+      subst (λ (k : ℕ). Follows (pieceOf o k) i j) k (record { starts = omega arith; falls = omega arith })
+  says-spaced e t (x ∷ before) after i j s =
+      let k : suc (suc t + length before) ≡ suc (t + suc (length before)) = omega arith in
+      subst (λ (k : ℕ). Follows (pieceOf o k) i j) k (says-spaced e (suc t) before after i j (s .1))
+
+  -- nothing else is told so
+  unsaid : (x : Op) (g : Bool) (r : Reading) → eqb (code x) 0x52 ≡ false → Reads x g r → informationsIn r ≡ []
+  unsaid x g r f (busy n) = refl
+  unsaid x g r f not-ready = refl
+  unsaid x g r f failed = refl
+  unsaid x g r f (malformed a) = refl
+  unsaid x g r f profile = refl
+  unsaid x g r f status = refl
+  unsaid x g r f information = absurd (false-true (sym f))
+  unsaid x g r f indication = refl
+  unsaid x g r f ready = refl
+  unsaid x g r f (unread q n) = refl
+
+  module _ (v : Seen) (is : List TrackInformation) (s : Says 0 is) where
+    abbrev SaysOn : Op → Type 0
+    SaysOn x = Says 0 (is ++ informationsIn (readingTo x v))
+
+    says-other : (x : Op) → eqb (code x) 0x52 ≡ false → SaysOn x
+    says-other x f = subst (Says 0) (sym (nothing-after is (informationsIn (readingTo x v)) (unsaid x true (readingTo x v) f (reads x (replyTo x v))))) s
+
+    says-on : (x : Op) → Due (o .count) (length is) x → SaysOn x
+    says-on GetConfiguration h = says-other GetConfiguration refl
+    says-on ReadDiscInformation h = says-other ReadDiscInformation refl
+    says-on (ReadTrackInformation t) h =
+        let e = h .track refl in
+        let k : t .0 ≡ suc (0 + length is) = e .0 ∙ omega arith in
+        subst (λ (r : Reading). Says 0 (is ++ informationsIn r)) (sym (named-whole 9 (second v) (taken (t .0)) (needed o (t .0))))
+        (says-snoc 0 is (informed (second v) (t .0)) s (subst (λ (m : ℕ). Said m (informed (second v) (t .0))) k (said-so (second v) (t .0) (e .1))))
+    says-on (ModeSelect t) h = says-other (ModeSelect t) refl
+    says-on SendCueSheet h = says-other SendCueSheet refl
+    says-on (Write t f k) h = says-other (Write t f k) refl
+    says-on (SynchronizeCache t) h = says-other (SynchronizeCache t) refl
+    says-on (CloseTrack t) h = says-other (CloseTrack t) refl
+    says-on CloseSession h = says-other CloseSession refl
+    says-on Blank h = says-other Blank refl
+    says-on TestUnitReady h = says-other TestUnitReady refl
+    says-on RequestSense h = says-other RequestSense refl
+
+  says-turn : (es : List Exchange) → o .method ≡ Tao → Played o es → firstRefused o es ≡ none → Says 0 (informations es) → Says 0 (informations (exchanged (ruled (pass o) es) (reply es) es))
+  says-turn es e p u s = go (left o es) refl (heard o es e (z .all) p u)
+    where
+      v : Seen
+      v = seen (o .method) es
+
+      go : (l : List Op) → left o es ≡ l → Heard o l (informations es) → Says 0 (informations (exchanged (ruled (pass o) es) (replyFor l v) es))
+      go [] q i = subst (λ (a : Ruling). Says 0 (informations (exchanged a (replyFor [] v) es))) (sym (ruled-at o es [] u q)) s
+      go (x ∷ l) q i = subst (λ (a : Ruling). Says 0 (informations (exchanged a (replyTo x v) es))) (sym (ruled-at o es (x ∷ l) u q)) (says-on v (informations es) s x (i .in-turn .0))
+
   abbrev total : ℕ
   total = weigh (script o) + wiping
 
@@ -803,6 +903,7 @@ module _ (o : Order) (z : Sized o) (ok : Recordable o) (p : ℕ) (d : DiscInform
     all-bytes : AllBytes (replies k)
     marked : AllMarkedGood (replies k)
     packed : Packed (total - k) (play (pass o) [] (replies k))
+    says : o .method ≡ Tao → Says 0 (informations (play (pass o) [] (replies k)))
 
   first-space : RoomBy Tao o (record { 0 = 0 }) (script (by o Tao))
   first-space =
@@ -823,6 +924,7 @@ module _ (o : Order) (z : Sized o) (ok : Recordable o) (p : ℕ) (d : DiscInform
         all-bytes = tt;
         marked = tt;
         packed = subst (λ (c : ℕ). Packed c []) e (record { unrefused = refl; stage = at-first refl refl refl refl (first-room (o .method)) refl });
+        says = λ q. tt;
       }
   fine (suc k) = more (fine k)
     where
@@ -834,6 +936,7 @@ module _ (o : Order) (z : Sized o) (ok : Recordable o) (p : ℕ) (d : DiscInform
             all-bytes = bytes-snoc (replies k) (reply es) (i .all-bytes) (reply-bytes (left o es) (seen (o .method) es));
             marked = marked-snoc (replies k) (reply es) (i .marked) (reply-good (left o es) (seen (o .method) es));
             packed = subst (λ (c : ℕ). Packed c (play (pass o) [] (replies (suc k)))) e (subst (Packed (total - k - 1)) (sym (play-snoc (replies k) [] (reply es))) (packed-turn (total - k) es (i .packed)));
+            says = λ q. subst (λ (l : List Exchange). Says 0 (informations l)) (sym (play-snoc (replies k) [] (reply es))) (says-turn es q (played o (replies k)) (i .packed .unrefused) (i .says q));
           }
 
   -- after them the job is done, so all is known
@@ -869,5 +972,8 @@ module _ (o : Order) (z : Sized o) (ok : Recordable o) (p : ℕ) (d : DiscInform
           of-profile = sym (profile-seen (o .method) es) ∙ b .1 .profile-known;
           of-disc = b .1 .discs-known;
           erases-so = sym (erased-seen (o .method) es) ∙ b .1 .erased-known;
+          spaces =
+              λ q before after x y e.
+              let k : suc (0 + length before) ≡ suc (length before) = omega arith in subst (λ (m : ℕ). Follows (pieceOf o m) x y) k (says-spaced q 0 before after x y (subst (Says 0) e (i .says q)));
         },
       )

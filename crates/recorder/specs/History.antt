@@ -318,7 +318,7 @@ abbrev pub discs : List Exchange → List DiscInformation
 discs es = gathered (λ e. discsIn (read e)) es
 
 -- replies that are bytes, good ones that the rules pass and that lead to the end as done, of a drive that says this profile and, first, this
--- disc; with flag bit 3 and a disc of status 1 or 2 an erasing takes place
+-- disc, and that starts each track 152 blocks after the last one ends; with flag bit 3 and a disc of status 1 or 2 an erasing takes place
 pub record Passing (o : Order) (p : ℕ) (d : DiscInformation) (rs : List Reply) : Type 0 where
   pub all-bytes : AllBytes rs
   pub marked : AllMarkedGood rs
@@ -327,6 +327,7 @@ pub record Passing (o : Order) (p : ℕ) (d : DiscInformation) (rs : List Reply)
   pub of-profile : profile (play (pass o) [] rs) ≡ p
   pub of-disc : (more : List DiscInformation) × (discs (play (pass o) [] rs) ≡ d ∷ more)
   pub erases-so : erased (play (pass o) [] rs) ≡ (o .erase && used (d .status))
+  pub spaces : o .method ≡ Tao → Spaced o (informations (play (pass o) [] rs))
 
 -- with flag bit 3 all but status 3 and a used disc that can't be erased; without it what the method takes
 abbrev pub unfit : Order → ℕ → DiscInformation → Bool
