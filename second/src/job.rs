@@ -1,6 +1,7 @@
 //! The plain job of document 01, "Recording rules", with the polling and the
-//! erasing of document 02, Asks 1 and 2: an order is taken, then replies are
-//! given; each time a command, the end as done, or a refusal comes out.
+//! erasing of document 02, Asks 1 and 2, and what Ask 6 charges for the room
+//! between tracks: an order is taken, then replies are given; each time a
+//! command, the end as done, or a refusal comes out.
 //!
 //! The job is a flat list of steps with a place in it. The three opening
 //! steps stand there from the start; the others are laid down once the third
@@ -242,8 +243,8 @@ impl Job {
     }
 
     /// After the first 51h, with the flag for erasing alone: 5, 6 for status 3,
-    /// 8, 9, 10 for S alone, 16. The steps of an erasing come next where the
-    /// disc is used.
+    /// 8, 9, 10 for S alone (charged by Ask 6), 16. The steps of an erasing come
+    /// next where the disc is used.
     fn judge_disc(&mut self) -> Result<(), Refusal> {
         let Some(order) = self.order.as_ref().filter(|order| order.flags.erase) else {
             return Ok(());
@@ -252,7 +253,7 @@ impl Job {
         require(self.disc.status != Disc::Other, Refusal::DiscStatus)?;
         order.check_session()?;
         order.check_lengths()?;
-        check_lead_out(Address(0).after(order.blocks_from(0)))?;
+        check_lead_out(Address(0).after(order.needed_from(0)))?;
         if self.disc.status != Disc::Blank {
             check_erasable(self.profile, self.disc)?;
             let next = self.place + 1;
@@ -372,16 +373,17 @@ fn check_usable(
     Ok(())
 }
 
-/// Number 10: S is at most Free Blocks, and the lead-out at most 404,849. In
-/// TAO the lead-out stands at the Next Writable Address plus S, in SAO at S.
+/// Number 10: S, which Ask 6 charges in TAO, is at most Free Blocks, and the
+/// lead-out at most 404,849. In TAO the lead-out stands at the Next Writable
+/// Address plus S, in SAO at S.
 fn check_fit(order: &Order, index: usize, info: TrackInformation) -> Result<(), Refusal> {
-    let blocks = order.blocks_from(index);
-    require(blocks <= info.free, Refusal::Fit)?;
+    let needed = order.needed_from(index);
+    require(needed <= info.free, Refusal::Fit)?;
     let base = match order.method {
         Method::Tao => info.next_writable,
         Method::Sao => Address(0),
     };
-    check_lead_out(base.after(blocks))
+    check_lead_out(base.after(needed))
 }
 
 /// Where the first WRITE after a 52h starts.
@@ -545,7 +547,7 @@ mod tests {
         assert_eq!((answer, job.count()), (Answer::Done, 26));
         let (job, answer, _) = run("sao audio 300", 0, &[track(0, 300)]);
         assert_eq!((answer, job.count()), (Answer::Done, 35));
-        let infos = [track(7, 617), track(307, 317)];
+        let infos = [track(7, 617 + 152), track(307, 317)];
         let (job, answer, _) = run("tao data 300 data 317", 1, &infos);
         assert_eq!((answer, job.count()), (Answer::Done, 50));
     }
@@ -608,16 +610,76 @@ mod tests {
         }
     }
 
+    /// The 52h replies of TAO tracks of 300 blocks, each started 152 blocks
+    /// after the last one's end; Free Blocks falls by what was taken.
+    fn spaced(tracks: u32, first: u32, free: u32) -> Vec<Reply> {
+        let taken = |index| index * (300 + 152);
+        let info = |index| track(first + taken(index), free - taken(index));
+        (0..tracks).map(info).collect()
+    }
+
+    /// Ask 6: in TAO each track after the first of those still to come is
+    /// charged 152 blocks, against Free Blocks and the lead-out limit.
+    #[test]
+    fn room_between_tracks() {
+        for tracks in [1, 2, 3, 99] {
+            let line = format!("tao{}", " data 300".repeat(tracks as usize));
+            let needed = 300 * tracks + 152 * (tracks - 1);
+            let full = 404_849 - needed;
+            let count = 23 * u64::from(tracks) + 3;
+            for (first, free) in [(0, needed), (full, needed), (full, u32::MAX)] {
+                let (job, answer, _) = run(&line, 0, &spaced(tracks, first, free));
+                assert_eq!((answer, job.count()), (Answer::Done, count));
+            }
+            for (first, free) in [(0, needed - 1), (full + 1, u32::MAX)] {
+                let late = stop(&line, 0, track(first, free));
+                assert_eq!(late, (refused(Refusal::Fit), 3));
+            }
+        }
+    }
+
+    /// Ask 6 at the later 52h: of three tracks the second is charged once, the
+    /// last not at all.
+    #[test]
+    fn room_between_later_tracks() {
+        let line = "tao data 300 data 301 data 302";
+        let room = || track(0, u32::MAX);
+        let second = |info| run(line, 0, &[room(), info, track(404_547, 302)]);
+        let third = |info| run(line, 0, &[room(), track(300, 755), info]);
+        for info in [track(300, 755), track(404_094, u32::MAX)] {
+            let (job, answer, _) = second(info);
+            assert_eq!((answer, job.count()), (Answer::Done, 3 * 23 + 3));
+        }
+        for info in [track(300, 754), track(404_095, u32::MAX)] {
+            let (job, answer, _) = second(info);
+            assert_eq!((answer, job.count()), (refused(Refusal::Fit), 26));
+        }
+        for info in [track(601, 301), track(404_548, u32::MAX)] {
+            let (job, answer, _) = third(info);
+            assert_eq!((answer, job.count()), (refused(Refusal::Fit), 49));
+        }
+    }
+
+    /// Ask 6: SAO is not charged.
+    #[test]
+    fn no_room_between_sao_tracks() {
+        let line = "sao data 300 data 301 data 302";
+        assert_eq!(stop(line, 0, track(0, 903)).0, Answer::Done);
+        assert_eq!(stop(line, 0, track(0, 902)), (refused(Refusal::Fit), 3));
+        let full = stop("sao data 300 data 404549", 0, track(0, 404_849));
+        assert_eq!(full, (Answer::Done, 16 + 19 + 25_285));
+    }
+
     /// Bench sheet: second TAO address equal to the previous end passes; one
-    /// less: 7.
+    /// less: 7. The end has no charge.
     #[test]
     fn bench_second_address() {
         let line = "tao data 300 data 300";
-        let (job, answer, writes) = run(line, 0, &[track(1_000, 600), track(1_300, 300)]);
+        let (job, answer, writes) = run(line, 0, &[track(1_000, 752), track(1_300, 300)]);
         assert_eq!((answer, job.count()), (Answer::Done, 49));
         assert_eq!((writes[0].0, writes[18].0), (1_000, 1_288));
         assert_eq!((writes[19].0, writes[37].0), (1_300, 1_588));
-        let (job, answer, _) = run(line, 0, &[track(1_000, 600), track(1_299, 300)]);
+        let (job, answer, _) = run(line, 0, &[track(1_000, 752), track(1_299, 300)]);
         assert_eq!(answer, refused(Refusal::TrackInformation));
         assert_eq!(job.count(), 3 + 1 + 19 + 2 + 1);
     }
@@ -676,7 +738,7 @@ mod tests {
     #[test]
     fn ninety_nine_tracks() {
         let tracks = " audio 301".repeat(99);
-        let infos: Vec<Reply> = (0..99).map(|i| track(5 + 302 * i, 30_000)).collect();
+        let infos: Vec<Reply> = (0..99).map(|i| track(5 + 302 * i, 45_000)).collect();
         let (job, answer, _) = run(&format!("tao{tracks}"), 0, &infos);
         assert_eq!((answer, job.count()), (Answer::Done, 4 * 99 + 3 + 99 * 19));
         let (job, answer, _) = run(&format!("sao{tracks}"), 0, &[track(0, 30_000)]);
@@ -912,6 +974,13 @@ mod tests {
         assert_eq!(stop("tao erase data 300", 10, 1, false), 16);
         assert_eq!(stop("tao erase data 299", 9, 0, false), 9);
         assert_eq!(stop("tao erase data 404850", 9, 0, false), 10);
+        for (profile, disc) in [(9, 0), (10, 2)] {
+            let over = "tao erase data 300 data 300 data 403946";
+            assert_eq!(stop(over, profile, disc, true), 10);
+        }
+        let limit = "tao erase data 300 data 300 data 403945";
+        assert_eq!(stop(limit, 9, 2, true), 16);
+        assert_eq!(stop("sao erase data 300 data 404549", 9, 2, true), 16);
     }
 
     /// At the second 51h 4 and 6; only blank passes, in TAO too.

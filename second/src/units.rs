@@ -15,6 +15,9 @@ pub const WRITABLE: RangeInclusive<i64> = PAUSE_START..=LAST_ADDRESS;
 pub const SHORTEST_TRACK: u32 = 300;
 /// An order holds at most this many tracks.
 pub const MOST_TRACKS: usize = 99;
+/// Blocks between the end of a TAO track and the start of the next one: two
+/// run-out blocks and a pause of 150 (document 02, Ask 6).
+pub const BETWEEN_TRACKS: u64 = 152;
 
 /// A block address.
 #[derive(Clone, Copy, PartialEq, Eq, PartialOrd, Ord, Debug)]
@@ -32,7 +35,8 @@ impl Address {
     /// The address that comes `count` blocks later.
     pub fn after(self, count: BlockCount) -> Address {
         // Addresses stem from 32-bit fields and counts from at most 99
-        // lengths of 32 bits, so this never leaves 64 bits.
+        // lengths of 32 bits and what lies between them, so this never leaves
+        // 64 bits.
         Address(self.0 + count.0 as i64)
     }
 }
@@ -163,14 +167,74 @@ impl Order {
         require(!short, Refusal::ShortTrack)
     }
 
-    /// S: the blocks of the track with index `first` and of all after it.
+    /// The blocks of the track with index `first` and of all after it: the
+    /// plain sum of their lengths.
     pub fn blocks_from(&self, first: usize) -> BlockCount {
         let lengths = self.tracks.iter().skip(first).map(|t| u64::from(t.length));
         BlockCount(lengths.sum())
+    }
+
+    /// S as number 10 judges it in a job (document 02, Ask 6): the blocks of
+    /// the track with index `first` and of all after it, and in TAO 152 more
+    /// for each of those after it. SAO is not charged.
+    pub fn needed_from(&self, first: usize) -> BlockCount {
+        let later = self.tracks.iter().skip(first).skip(1).count();
+        let charge = match self.method {
+            Method::Tao => BETWEEN_TRACKS * later as u64,
+            Method::Sao => 0,
+        };
+        BlockCount(self.blocks_from(first).0 + charge)
     }
 }
 
 /// Number 10, the lead-out limit.
 pub fn check_lead_out(lead_out: Address) -> Result<(), Refusal> {
     require(lead_out.0 <= LAST_ADDRESS, Refusal::Fit)
+}
+
+#[cfg(test)]
+mod tests {
+    use super::*;
+
+    fn order(method: Method, lengths: &[u32]) -> Order {
+        let tracks = lengths.iter().map(|&length| Track {
+            kind: Kind::Data,
+            length,
+        });
+        Order {
+            method,
+            flags: Flags::default(),
+            tracks: tracks.collect(),
+        }
+    }
+
+    /// With m tracks still to come S is charged 152 (m - 1).
+    #[test]
+    fn tao_is_charged() {
+        let three = order(Method::Tao, &[300, 301, 302]);
+        let needed = [0, 1, 2].map(|first| three.needed_from(first).0);
+        assert_eq!(needed, [903 + 304, 603 + 152, 302]);
+        let plain = [0, 1, 2].map(|first| three.blocks_from(first).0);
+        assert_eq!(plain, [903, 603, 302]);
+        assert_eq!(order(Method::Tao, &[300]).needed_from(0), BlockCount(300));
+    }
+
+    #[test]
+    fn sao_is_not_charged() {
+        let three = order(Method::Sao, &[300, 301, 302]);
+        for first in 0..3 {
+            assert_eq!(three.needed_from(first), three.blocks_from(first));
+        }
+    }
+
+    /// Sums are exact, and nothing is charged where no track is to come.
+    #[test]
+    fn most_and_least() {
+        let most = order(Method::Tao, &[u32::MAX; MOST_TRACKS]);
+        let lengths = 99 * u64::from(u32::MAX);
+        assert_eq!(most.needed_from(0), BlockCount(lengths + 14_896));
+        assert_eq!(most.needed_from(98), BlockCount(u32::MAX.into()));
+        assert_eq!(most.needed_from(99), BlockCount(0));
+        assert_eq!(order(Method::Tao, &[]).needed_from(0), BlockCount(0));
+    }
 }

@@ -1,7 +1,8 @@
 //! A fixed set of named jobs, at least one for each sentence of document 01
-//! that a job can show. Those of document 02, Asks 1 and 2, stand in
-//! `polling_corners` and `erasing_corners`.
+//! that a job can show. Those of document 02, Asks 1, 2 and 6, stand in
+//! `polling_corners`, `erasing_corners` and `charge_corners`.
 
+use crate::charge_corners::charging;
 use second::blocks::{seal, BLOCK};
 use crate::erasing_corners::erasing;
 use second::hex;
@@ -49,6 +50,7 @@ pub fn corners() -> Vec<Corner> {
     counts(&mut list);
     polling(&mut list);
     erasing(&mut list);
+    charging(&mut list);
     list.0
 }
 
@@ -337,35 +339,35 @@ fn replies_52h(list: &mut List) {
 /// TAO: a fresh 52h before each track but the first, judged for 4, 7, 10.
 fn later_52h(list: &mut List) {
     let order = "order tao data 300 data 301 audio 302\n";
-    let first = format!("{order}{TWO}good track nwa 1000 free 903\n{TRACK_300}");
+    let first = format!("{order}{TWO}good track nwa 1000 free 1207\n{TRACK_300}");
     let second = |reply: &str| format!("{first}{reply}\n{TRACK_300}good track nwa 2000 free 302\n23 x good\n");
-    let third = |reply: &str| format!("{first}good track nwa 1300 free 603\n{TRACK_300}{reply}\n23 x good\n");
-    list.job("later-52h-equal", "done 72", "second address equal to the previous end passes", &second("good track nwa 1300 free 603"));
-    list.job("later-52h-stale", "stop 7 26", "second address one less than the previous end: 7", &second("good track nwa 1299 free 603"));
-    list.job("later-52h-same", "stop 7 26", "the first 52h's address again: 7", &second("good track nwa 1000 free 603"));
-    list.job("later-52h-above", "done 72", "second address above the previous end: the track starts there", &second("good track nwa 1452 free 603"));
-    list.job("later-52h-damage", "stop 7 26", "Damage at the second 52h: 7", &second("good track nwa 1300 free 603 damaged"));
-    list.job("later-52h-no-address", "stop 7 26", "NWA_V clear at the second 52h: 7", &second("good track nwa 1300 free 603 no-address"));
+    let third = |reply: &str| format!("{first}good track nwa 1300 free 755\n{TRACK_300}{reply}\n23 x good\n");
+    list.job("later-52h-equal", "done 72", "second address equal to the previous end passes", &second("good track nwa 1300 free 755"));
+    list.job("later-52h-stale", "stop 7 26", "second address one less than the previous end: 7", &second("good track nwa 1299 free 755"));
+    list.job("later-52h-same", "stop 7 26", "the first 52h's address again: 7", &second("good track nwa 1000 free 755"));
+    list.job("later-52h-above", "done 72", "second address above the previous end: the track starts there", &second("good track nwa 1452 free 755"));
+    list.job("later-52h-damage", "stop 7 26", "Damage at the second 52h: 7", &second("good track nwa 1300 free 755 damaged"));
+    list.job("later-52h-no-address", "stop 7 26", "NWA_V clear at the second 52h: 7", &second("good track nwa 1300 free 755 no-address"));
     list.job("later-52h-short", "stop 4 26", "the second 52h is too short: 4", &second(&track_data(27, 26, &[])));
     list.job("later-52h-length-25", "stop 4 26", "the second 52h's length field is 25: 4", &second(&track_data(48, 25, &[])));
     list.job("later-52h-4-before-7", "stop 4 26", "a short reply with Damage: 4 before 7", &second(&track_data(27, 26, &[(5, 0x20)])));
     list.job("later-52h-7-before-10", "stop 7 26", "a stale address and no room: 7 before 10", &second("good track nwa 1299 free 0"));
-    list.job("later-52h-free", "stop 10 26", "S at the second 52h is this track and those after it: one block short: 10", &second("good track nwa 1300 free 602"));
-    list.job("later-52h-limit", "done 72", "lead-out limit at the second 52h: 404,849 passes", &format!("{first}good track nwa 404246 free 603\n{TRACK_300}good track nwa 404547 free 302\n23 x good\n"));
-    list.job("later-52h-over-limit", "stop 10 26", "lead-out limit at the second 52h: 404,850: 10", &second("good track nwa 404247 free 603"));
-    list.job("later-52h-old-limit", "stop 10 26", "lead-out at 449,849 at the second 52h: 10", &second("good track nwa 449246 free 603"));
-    list.job("later-52h-address-over", "stop 10 26", "the second address itself beyond the limit: 10", &second("good track nwa 404850 free 603"));
-    list.job("later-52h-wrap", "stop 10 26", "address plus S beyond 32 bits: 10", &second("good track nwa 4294967295 free 603"));
+    list.job("later-52h-free", "stop 10 26", "S at the second 52h is this track, those after it and what lies between: one block short: 10", &second("good track nwa 1300 free 754"));
+    list.job("later-52h-limit", "done 72", "lead-out limit at the second 52h: 404,849 passes", &format!("{first}good track nwa 404094 free 755\n{TRACK_300}good track nwa 404547 free 302\n23 x good\n"));
+    list.job("later-52h-over-limit", "stop 10 26", "lead-out limit at the second 52h: 404,850: 10", &second("good track nwa 404095 free 755"));
+    list.job("later-52h-old-limit", "stop 10 26", "lead-out at 449,849 at the second 52h: 10", &second("good track nwa 449094 free 755"));
+    list.job("later-52h-address-over", "stop 10 26", "the second address itself beyond the limit: 10", &second("good track nwa 404850 free 755"));
+    list.job("later-52h-wrap", "stop 10 26", "address plus S beyond 32 bits: 10", &second("good track nwa 4294967295 free 755"));
     list.job("later-52h-third-equal", "done 72", "third address equal to the second track's end passes", &third("good track nwa 1601 free 302"));
     list.job("later-52h-third-stale", "stop 7 49", "third address one less: 7", &third("good track nwa 1600 free 302"));
     list.job("later-52h-third-free", "stop 10 49", "the last track alone is S at the third 52h: 10", &third("good track nwa 1601 free 301"));
     list.job("later-52h-third-over", "stop 10 49", "lead-out limit at the last 52h: 10", &third("good track nwa 404548 free 302"));
     list.job("later-52h-third-limit", "done 72", "lead-out limit at the last 52h: 404,849 passes", &third("good track nwa 404547 free 302"));
     list.job("later-52h-third-old-limit", "stop 10 49", "lead-out at 449,849 at the last 52h: 10", &third("good track nwa 449547 free 302"));
-    list.job("later-52h-lead-in", "stop 10 26", "an address of -45,150 at the second 52h is read unsigned: 10", &second("good track nwa 4294922146 free 603"));
-    list.job("later-52h-gap-then-stale", "stop 7 49", "the end counts from the track's own start", &format!("{first}good track nwa 5000 free 603\n{TRACK_300}good track nwa 5300 free 302\n"));
+    list.job("later-52h-lead-in", "stop 10 26", "an address of -45,150 at the second 52h is read unsigned: 10", &second("good track nwa 4294922146 free 755"));
+    list.job("later-52h-gap-then-stale", "stop 7 49", "the end counts from the track's own start", &format!("{first}good track nwa 5000 free 755\n{TRACK_300}good track nwa 5300 free 302\n"));
     list.job("later-52h-failed", "stop 12 26 03 02 00", "the second 52h fails: 12", &second("failed 03 02 00"));
-    list.job("later-52h-busy", "done 75", "the second 52h is busy, then good", &second("3 x busy\ngood track nwa 1300 free 603"));
+    list.job("later-52h-busy", "done 75", "the second 52h is busy, then good", &second("3 x busy\ngood track nwa 1300 free 755"));
 }
 
 /// Numbers 8 and 9.
@@ -396,12 +398,12 @@ fn fitting(list: &mut List) {
     list.job("10-free-short-tao", "stop 10 3", "TAO: one block more than Free Blocks: 10", &tao("data 301", 0, 300));
     list.job("10-free-equal-sao", "done 35", "SAO: S equal to Free Blocks passes; the pause isn't in S", &sao("data 300", 300));
     list.job("10-free-short-sao", "stop 10 3", "SAO: one block more than Free Blocks: 10", &sao("data 301", 300));
-    list.job("10-free-sum", "stop 10 3", "S is the sum over all tracks", &tao("data 300 data 301 data 302", 0, 902));
+    list.job("10-free-sum", "stop 10 3", "S is the sum over all tracks and what lies between", &tao("data 300 data 301 data 302", 0, 1_206));
     list.job("10-free-zero", "stop 10 3", "no free block: 10", &tao("data 300", 0, 0));
     list.job("10-free-most", "done 26", "Free Blocks is unsigned", &tao("data 300", 0, most));
     list.job("10-limit-tao", "done 26", "TAO: lead-out at 404,849 passes", &tao("data 300", 404_549, most));
     list.job("10-over-tao", "stop 10 3", "TAO: lead-out at 404,850: 10", &tao("data 300", 404_550, most));
-    list.job("10-limit-tao-sum", "stop 10 3", "TAO: the lead-out is the address plus all lengths: 10", &tao("data 300 data 300", 404_250, most));
+    list.job("10-limit-tao-sum", "stop 10 3", "TAO: the lead-out is the address plus all lengths and what lies between: 10", &tao("data 300 data 300", 404_098, most));
     list.job("10-over-tao-length", "stop 10 3", "TAO: a length beyond the limit: 10", &tao("data 404850", 0, most));
     list.job("10-limit-sao", "waiting 44", "SAO with S 404,849 and room passes", &sao("data 404849", 404_849));
     list.job("10-over-sao", "stop 10 3", "SAO with S 404,850: 10", &sao("data 404850", most));
@@ -417,7 +419,7 @@ fn fitting(list: &mut List) {
     list.job("10-limit-tao-length", "waiting 27", "TAO: a track of 404,849 from 0 passes", &tao("data 404849", 0, most));
     list.job("10-limit-tao-from-1", "stop 10 3", "TAO: a track of 404,849 from 1: 10", &tao("data 404849", 1, most));
     list.job("10-limit-tao-two", "done 49", "TAO: two tracks with the lead-out at 404,849 pass", &format!(
-        "order tao data 300 data 300\n{TWO}good track nwa 404249 free 600\n{TRACK_300}good track nwa 404549 free 300\n{TAO_300}"
+        "order tao data 300 data 300\n{TWO}good track nwa 404097 free 752\n{TRACK_300}good track nwa 404549 free 300\n{TAO_300}"
     ));
     let tracks = " data 4089".repeat(98);
     list.job("10-limit-sao-99", "waiting 44", "SAO: 99 tracks with S 404,849 pass", &sao(&format!("{tracks} data 4127"), 404_849));
@@ -483,7 +485,7 @@ fn failed_replies(list: &mut List) {
 /// A failure, a row of busy replies, and the input's end at each place.
 fn failures_everywhere(list: &mut List) {
     let blank = "good profile 000A\ngood disc blank\n";
-    let tao = format!("{blank}good track nwa 0 free 601\n{TRACK_300}good track nwa 300 free 301\n{TAO_300}");
+    let tao = format!("{blank}good track nwa 0 free 753\n{TRACK_300}good track nwa 300 free 301\n{TAO_300}");
     let sao = format!("{blank}good track nwa 0 free 300\n{SAO_300}");
     for (method, order, replies) in [
         ("tao", "order tao protect audio 300 data 301\n", tao),
@@ -587,7 +589,7 @@ fn counts(list: &mut List) {
     list.job("count-50", "done 50", "TAO, 300 and 317: done 50", &format!(
         "order tao data 300 data 317\n{OPEN}{TRACK_300}good track nwa 300 free 299700\n24 x good\n"
     ));
-    let many: String = (1..99).map(|i| format!("{TRACK_300}good track nwa {} free 40000\n", 301 * i)).collect();
+    let many: String = (1..99).map(|i| format!("{TRACK_300}good track nwa {} free 50000\n", 301 * i)).collect();
     list.job("count-99-tao", "done 2280", "TAO, 99 tracks of 300: done 2280", &format!(
         "order tao{}\n{OPEN}{many}{TAO_300}", " audio 300".repeat(99)
     ));

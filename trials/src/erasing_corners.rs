@@ -6,10 +6,10 @@ use second::hex;
 use crate::polling_corners::{each_disturbed, flag_words, polled_at, polled_in_detail, tao_one, Place, POLL};
 
 /// 46h and 51h of a used CD-RW.
-const USED: &str = "good profile 000A\ngood disc appendable erasable\n";
+pub(crate) const USED: &str = "good profile 000A\ngood disc appendable erasable\n";
 const FINALIZED: &str = "good profile 000A\ngood disc finalized erasable\n";
 /// A1h without Immed, and the second 51h.
-const ERASED: &str = "good\ngood disc blank\n";
+pub(crate) const ERASED: &str = "good\ngood disc blank\n";
 /// A 52h reply with ample room.
 const ROOM: &str = "good track nwa 0 free 300000\n";
 
@@ -250,15 +250,18 @@ fn sum_alone(list: &mut List) {
         for (disc, before, more) in [("blank", TWO, 0), ("used", USED, 2)] {
             let first = |tracks: &str| format!("order {method} erase {tracks}\n{before}");
             let name = |what: &str| format!("erase-sum-{method}-{disc}-{what}");
+            // In TAO two of three tracks are charged (Ask 6).
+            let charge = if method == "tao" { 304 } else { 0 };
+            let three = |sum: u64| first(&format!("data 300 data {} data 300", sum - 600 - charge));
             let passes = "S of 404,849 passes at the first 51h";
             list.job(&name("limit"), "waiting 3", passes, &first("data 404849"));
-            list.job(&name("limit-three"), "waiting 3", passes, &first("data 300 data 404249 data 300"));
+            list.job(&name("limit-three"), "waiting 3", passes, &three(404_849));
             let over = "S above 404,849: 10 at the first 51h";
             list.job(&name("over"), "stop 10 2", over, &first("data 404850"));
-            list.job(&name("over-three"), "stop 10 2", over, &first("data 300 data 404250 data 300"));
+            list.job(&name("over-three"), "stop 10 2", over, &three(404_850));
             list.job(&name("old-limit"), "stop 10 2", over, &first("data 449849"));
             list.job(&name("old-over"), "stop 10 2", over, &first("data 449850"));
-            list.job(&name("old-limit-three"), "stop 10 2", over, &first("data 300 data 449249 data 300"));
+            list.job(&name("old-limit-three"), "stop 10 2", over, &three(449_849));
             list.job(&name("most"), "stop 10 2", over, &first("data 4294967295"));
             list.job(&name("wraps"), "stop 10 2", "lengths that add up to 2^32 + 300: 10", &first("data 4294967295 data 301"));
             list.job(&name("most-of-all"), "stop 10 2", "99 tracks of 2^32 - 1: 10", &first(&" data 4294967295".repeat(99)));
@@ -553,7 +556,7 @@ fn track_information(list: &mut List) {
 
 /// Later 52h replies of an erasing TAO job.
 fn later_tracks(list: &mut List) {
-    let first = format!("order tao erase data 300 audio 301\n{USED}{ERASED}good track nwa 1000 free 601\n22 x good\n");
+    let first = format!("order tao erase data 300 audio 301\n{USED}{ERASED}good track nwa 1000 free 753\n22 x good\n");
     let second = |reply: &str| format!("{first}{reply}\n{TAO_300}");
     list.job("erase-later-equal", "done 51", "second address equal to the previous end passes", &second("good track nwa 1300 free 301"));
     list.job("erase-later-above", "done 51", "second address above the previous end passes", &second("good track nwa 1450 free 301"));
@@ -631,7 +634,7 @@ fn after_the_end(list: &mut List) {
 /// "The exact count grows by 2 where an erasing took place."
 fn long_jobs(list: &mut List) {
     let many = |track: &str| -> String {
-        (1..99).map(|i| format!("{track}good track nwa {} free 40000\n", 301 * i)).collect()
+        (1..99).map(|i| format!("{track}good track nwa {} free 50000\n", 301 * i)).collect()
     };
     let tracks = " audio 300".repeat(99);
     let (plain, polled) = ("22 x good\n", format!("21 x good\n{POLL}good\n{POLL}"));

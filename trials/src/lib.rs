@@ -1,16 +1,18 @@
 //! Jobs and requests for the proved programs and the second one. `drive`,
-//! `random` and `polling_random` make random jobs, `corners`, `polling_corners`
-//! and `erasing_corners` the fixed ones; `requests` makes requests over the byte
-//! layouts, which `packed` gives in a binary form, and `cdtext_random` and
-//! `cdtext_corners` those over CD-TEXT. `conversion` looks at the source and the
-//! machine code of the conversion of times.
+//! `random` and `polling_random` make random jobs, `corners`, `polling_corners`,
+//! `erasing_corners` and `charge_corners` the fixed ones; `requests` makes
+//! requests over the byte layouts, which `packed` gives in a binary form, and
+//! `cdtext_random` and `cdtext_corners` those over CD-TEXT. `conversion` looks at
+//! the source and the machine code of the conversion of times.
 
 #![forbid(unsafe_code)]
 
 pub mod cdtext_corners;
 pub mod cdtext_random;
-pub mod conversion;
 #[rustfmt::skip] // a table with one job a line
+pub mod charge_corners;
+pub mod conversion;
+#[rustfmt::skip] // likewise
 pub mod corners;
 pub mod drive;
 #[rustfmt::skip] // likewise

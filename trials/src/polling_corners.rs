@@ -440,7 +440,7 @@ fn where_polled(list: &mut List) {
 fn every_command(list: &mut List) {
     let blank = "good profile 000A\ngood disc blank\n";
     let tao = format!(
-        "{blank}good track nwa 0 free 601\n{TO_35H}{POLL}good\n{POLL}good track nwa 300 free 301\n{}", tao_one(POLL)
+        "{blank}good track nwa 0 free 753\n{TO_35H}{POLL}good\n{POLL}good track nwa 300 free 301\n{}", tao_one(POLL)
     );
     let sao = format!("{blank}good track nwa 0 free 300\n{TO_SAO_35H}{POLL}");
     each_disturbed(list, "polled", "tao", "order tao protect immed audio 300 data 301\n", &tao);
@@ -562,7 +562,7 @@ fn numbers_with_the_flag(list: &mut List) {
     list.job("immed-number-10-tao", "stop 10 3", "TAO beyond the lead-out limit with the flag: 10", &job("tao immed data 300", "0009", "blank", "good track nwa 404550 free 300"));
     list.job("immed-limit-sao", "waiting 44", "SAO with S 404,849 with the flag passes", &job("sao immed data 404849", "0009", "blank", "good track nwa 0 free 404849"));
     list.job("immed-limit-tao", "done 32", "TAO: lead-out at 404,849 with the flag passes", &format!("order tao immed data 300\n{TWO}good track nwa 404549 free 300\n{TO_35H}{POLL}good\n{POLL}good\n{POLL}"));
-    let first = format!("order tao immed data 300 data 301\n{TWO}good track nwa 1000 free 601\n{TO_35H}{POLL}good\n{POLL}");
+    let first = format!("order tao immed data 300 data 301\n{TWO}good track nwa 1000 free 753\n{TO_35H}{POLL}good\n{POLL}");
     list.job("immed-later-4", "stop 4 30", "the second 52h is too short: 4", &format!("{first}good\n"));
     list.job("immed-later-7", "stop 7 30", "the second 52h has a stale address: 7", &format!("{first}good track nwa 1299 free 301\n"));
     list.job("immed-later-10", "stop 10 30", "no room at the second 52h: 10", &format!("{first}good track nwa 1300 free 300\n"));
@@ -576,7 +576,7 @@ fn numbers_with_the_flag(list: &mut List) {
 /// Polls count in N and are many.
 fn long_jobs(list: &mut List) {
     let track = format!("{TO_35H}{POLL}good\n{POLL}");
-    let many: String = (1..99).map(|i| format!("{track}good track nwa {} free 40000\n", 301 * i)).collect();
+    let many: String = (1..99).map(|i| format!("{track}good track nwa {} free 50000\n", 301 * i)).collect();
     list.job("polled-99-tao", "done 2678", "TAO, 99 tracks of 300: 2280 commands and 199 pollings", &format!(
         "order tao immed{}\n{OPEN}{many}{track}good\n{POLL}", " audio 300".repeat(99)
     ));

@@ -11,7 +11,7 @@ use second::commands::{
 };
 use second::job::{Answer, Command, Job};
 use second::rng::Rng;
-use second::units::{Flags, Kind, Method, Order, Track, LAST_ADDRESS, MOST_TRACKS};
+use second::units::{Flags, Kind, Method, Order, Track, BETWEEN_TRACKS, LAST_ADDRESS, MOST_TRACKS};
 use second::wellformed::{
     busy_reply, disc_reply, profile_reply, sense_reply, track_reply, TrackFields,
 };
@@ -47,7 +47,8 @@ fn order(rng: &mut Rng, notes: &mut Vec<String>) -> Order {
     let mut lengths: Vec<u32> = (0..count).map(|_| usual_length(rng)).collect();
     // S alone has a limit in SAO, and with the flag for erasing.
     let limited = method == Method::Sao || flags.erase;
-    odd_lengths(rng, limited, &mut lengths, notes);
+    let charge = charge(rng, method) * (count as u64 - 1);
+    odd_lengths(rng, limited.then_some(charge), &mut lengths, notes);
     let tracks = kinds
         .into_iter()
         .zip(lengths)
@@ -99,8 +100,27 @@ fn usual_length(rng: &mut Rng) -> u32 {
     }
 }
 
-/// Sometimes a length below 300, a huge one, or a sum at a limit.
-fn odd_lengths(rng: &mut Rng, limited: bool, lengths: &mut [u32], notes: &mut Vec<String>) {
+/// What a track after the first is charged: mostly as Ask 6 of document 02 says,
+/// sometimes a block more or less, or nothing.
+fn charge(rng: &mut Rng, method: Method) -> u64 {
+    let other = rng.pick(&[0, BETWEEN_TRACKS - 1, BETWEEN_TRACKS + 1]);
+    match method {
+        Method::Tao if rng.chance(25) => other,
+        Method::Tao => BETWEEN_TRACKS,
+        Method::Sao => 0,
+    }
+}
+
+/// What is still to be recorded from the track with this index on, charged as
+/// above.
+fn needed(rng: &mut Rng, order: &Order, first: usize) -> u64 {
+    let later = order.tracks.len().saturating_sub(first + 1) as u64;
+    order.blocks_from(first).0 + charge(rng, order.method) * later
+}
+
+/// Sometimes a length below 300, a huge one, or a sum at a limit, if it has one:
+/// the charge then is in the sum.
+fn odd_lengths(rng: &mut Rng, charge: Option<u64>, lengths: &mut [u32], notes: &mut Vec<String>) {
     let place = rng.below(lengths.len() as u64) as usize;
     match rng.below(100) {
         0..=3 => {
@@ -124,24 +144,31 @@ fn odd_lengths(rng: &mut Rng, limited: bool, lengths: &mut [u32], notes: &mut Ve
             wrap_sum(rng, lengths, place);
             notes.push("the lengths add up to more than 32 bits".to_string());
         }
-        9..=12 if limited => {
-            let others =
-                lengths.iter().map(|&l| u64::from(l)).sum::<u64>() - u64::from(lengths[place]);
-            let sum = rng.pick(&[
-                LIMIT - 1,
-                LIMIT,
-                LIMIT,
-                LIMIT,
-                LIMIT,
-                LIMIT + 1,
-                LIMIT + 1,
-                OLD_LIMIT,
-            ]);
-            lengths[place] = (sum - others) as u32;
-            notes.push(format!("the lengths add up to {sum}"));
+        9..=12 => {
+            let Some(charge) = charge else { return };
+            let sum = sum_at_limit(rng, charge, lengths, place);
+            notes.push(format!("the lengths and {charge} add up to {sum}"));
         }
         _ => {}
     }
+}
+
+/// Lengths whose sum with this charge is at a limit.
+fn sum_at_limit(rng: &mut Rng, charge: u64, lengths: &mut [u32], place: usize) -> u64 {
+    let all: u64 = lengths.iter().map(|&length| u64::from(length)).sum();
+    let others = all - u64::from(lengths[place]);
+    let sum = rng.pick(&[
+        LIMIT - 1,
+        LIMIT,
+        LIMIT,
+        LIMIT,
+        LIMIT,
+        LIMIT + 1,
+        LIMIT + 1,
+        OLD_LIMIT,
+    ]);
+    lengths[place] = (sum - charge - others) as u32;
+    sum
 }
 
 /// Lengths whose sum is small modulo 2^32.
@@ -589,7 +616,7 @@ impl<'a> Maker<'a> {
 
     fn odd_track(&mut self, previous_end: Option<u64>) -> (Reply, String) {
         let mut fields = self.drive.track_fields();
-        let note = match self.rng.below(6) {
+        let note = match self.rng.below(8) {
             0 => {
                 fields.damaged = true;
                 "damaged".to_string()
@@ -603,8 +630,8 @@ impl<'a> Maker<'a> {
                 fields.address_valid = false;
                 "damaged, no address".to_string()
             }
-            3 => self.odd_free(&mut fields),
-            4 => self.odd_address(&mut fields, previous_end),
+            3..=4 => self.odd_free(&mut fields),
+            5 => self.odd_address(&mut fields, previous_end),
             _ => self.at_the_limit(&mut fields),
         };
         if fields.address_valid && !fields.damaged {
@@ -615,10 +642,11 @@ impl<'a> Maker<'a> {
         (track_reply(fields), note)
     }
 
-    /// S: what is still to be recorded at the latest 52h.
-    fn remaining(&self) -> u64 {
+    /// S: what is still to be recorded at the latest 52h, mostly as it is
+    /// charged.
+    fn remaining(&mut self) -> u64 {
         let asked = self.given[usize::from(READ_TRACK_INFORMATION)];
-        self.order.blocks_from(asked.saturating_sub(1)).0
+        needed(self.rng, &self.order, asked.saturating_sub(1))
     }
 
     fn odd_free(&mut self, fields: &mut TrackFields) -> String {
@@ -634,7 +662,7 @@ impl<'a> Maker<'a> {
         let end = end.unwrap_or(0);
         let address = self
             .rng
-            .pick(&[end.wrapping_sub(1), end, end + 1, 0, end + 150]);
+            .pick(&[end.wrapping_sub(1), end, end + 1, 0, end + 150, end + 152]);
         fields.next_writable = address as u32;
         format!(
             "address {} where the track before ends at {end}",
@@ -697,13 +725,14 @@ fn drive(rng: &mut Rng, order: &Order, notes: &mut Vec<String>) -> Drive {
         rng.between(1, 3) as u8
     };
     let blocks = order.blocks_from(0).0;
-    let free = free_blocks(rng, blocks);
-    let next_writable = first_address(rng, order.method, blocks);
-    let gap = rng.pick(&[0, 0, 0, 2, 150, 152]);
+    let room = needed(rng, order, 0);
+    let free = free_blocks(rng, room);
+    let next_writable = first_address(rng, order.method, room);
+    let gap = rng.pick(&[0, 0, 0, 2, 150, 151, 152, 152, 152, 152, 152, 153]);
     let mark = if erasable { " erasable" } else { "" };
     notes.push(format!(
         "profile {profile:04X}h, disc {disc}{mark}, address {next_writable}, free {free}, \
-         {blocks} blocks"
+         {blocks} blocks, {gap} between tracks"
     ));
     Drive {
         profile,
@@ -754,8 +783,8 @@ fn polling(rng: &mut Rng, order: &Order) -> Polling {
 /// Mostly room enough, often by nothing more.
 fn free_blocks(rng: &mut Rng, blocks: u64) -> u32 {
     let free = match rng.below(100) {
-        0..=4 => blocks.saturating_sub(1),
-        5..=19 => blocks,
+        0..=5 => blocks.saturating_sub(1),
+        6..=19 => blocks,
         20..=24 => blocks + 1,
         25..=29 => u64::from(u32::MAX),
         _ => blocks + rng.between(1_000, 400_000),
@@ -770,9 +799,10 @@ fn free_blocks(rng: &mut Rng, blocks: u64) -> u32 {
 
 fn first_address(rng: &mut Rng, method: Method, blocks: u64) -> u32 {
     let address = match rng.below(100) {
-        0..=29 => 0,
-        30..=44 => LIMIT.saturating_sub(blocks),
-        45..=48 => LIMIT.saturating_sub(blocks) + 1,
+        0..=26 => 0,
+        27..=40 => LIMIT.saturating_sub(blocks),
+        41..=46 => LIMIT.saturating_sub(blocks) + 1,
+        47..=48 => LIMIT.saturating_sub(blocks + 1),
         49 => (1 << 32) - 150,
         // The lead-in's first and last address, which are read unsigned.
         50 => (1 << 32) - rng.pick(&[45_150, 151]),
@@ -851,6 +881,7 @@ fn odd_poll(rng: &mut Rng, order: &Order) -> Odd {
 #[cfg(test)]
 mod tests {
     use super::*;
+    use second::job::Step;
     use std::collections::BTreeMap;
 
     /// How the job with this input ends: the refusal's number, 0 for done,
@@ -898,6 +929,54 @@ mod tests {
         let erased = made.iter().filter(|(erased, _)| *erased).count();
         let done = made.iter().filter(|(_, done)| *done).count();
         assert!(erased > 300 && done > 100, "{erased} {done}");
+    }
+
+    /// What a good 52h reply leaves beyond what the tracks from this one on
+    /// need: of Free Blocks, and up to the lead-out limit.
+    fn spare(order: &Order, index: usize, data: &[u8]) -> [i64; 2] {
+        let needed = order.needed_from(index).0 as i64;
+        let field = |place: usize| {
+            let bytes = data[place..].first_chunk::<4>().unwrap();
+            i64::from(u32::from_be_bytes(*bytes))
+        };
+        [field(16), LAST_ADDRESS - field(12)].map(|room| room - needed)
+    }
+
+    /// What each 52h of a TAO job leaves over, the last track's apart.
+    fn spares(bytes: &[u8]) -> Vec<[i64; 2]> {
+        let mut blocks = bytes.chunks(BLOCK);
+        let (mut job, mut answer) = Job::take(blocks.next().unwrap_or(&[]));
+        let mut all = Vec::new();
+        while let Answer::Command(_) = answer {
+            let Some(Ok(reply)) = blocks.next().map(read_reply) else {
+                break;
+            };
+            let order = job.order().unwrap();
+            if let Step::ReadTrackInformation(index) = job.step() {
+                let charged = order.method == Method::Tao && index + 1 < order.tracks.len();
+                if charged && reply.status == Status::Good && reply.data.len() >= 28 {
+                    all.push(spare(order, index, &reply.data));
+                }
+            }
+            answer = job.give(&reply);
+        }
+        all
+    }
+
+    /// Many 52h replies leave exactly the room that is charged, many a block
+    /// less or more.
+    #[test]
+    fn limits_of_the_charge_occur() {
+        let mut rng = Rng::new(6);
+        let all: Vec<[i64; 2]> = (0..1_500)
+            .flat_map(|_| spares(&job(&mut rng).bytes))
+            .collect();
+        for sort in [0, 1] {
+            for (over, least) in [(0, 60), (-1, 5), (1, 5)] {
+                let found = all.iter().filter(|spare| spare[sort] == over).count();
+                assert!(found >= least, "{sort} {over}: {found}");
+            }
+        }
     }
 
     #[test]

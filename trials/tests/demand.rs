@@ -68,7 +68,7 @@ impl Watch {
         let kinds = order.tracks.windows(2).all(|w| w[0].kind == w[1].kind);
         assert!(order.method == Method::Tao || (kinds && !order.flags.keep));
         assert!(order.tracks.iter().all(|track| track.length >= 300));
-        assert!(order.blocks_from(0).0 <= 404_849);
+        assert!(charged(order) <= 404_849);
     }
 
     /// A WRITE is given: with the flag the latest 51h said blank, and a disc
@@ -151,6 +151,15 @@ fn progress(data: &[u8]) -> Option<u32> {
     };
     let valid = u32::from(flags / 128);
     Some(valid * (256 * u32::from(high) + u32::from(low)))
+}
+
+/// S of a whole order, in TAO with 152 blocks for each track after the first.
+fn charged(order: &Order) -> u64 {
+    let between = match order.method {
+        Method::Tao => 152 * (order.tracks.len() as u64 - 1),
+        Method::Sao => 0,
+    };
+    order.blocks_from(0).0 + between
 }
 
 /// The count of an all-good job.
