@@ -11,7 +11,6 @@ use lib.ListN.{length, drop, length-append, length-drop}
 use Rattle.basics.specs.Bytes.{if}
 use Rattle.mmc.specs.Order.{tracksIn, blocksOf}
 use Rattle.mmc.specs.Refusals.{test}
-use Rattle.mmc.specs.Times.{framesTo}
 use Rattle.mmc.specs.declared.order.Order.{Order}
 use Rattle.mmc.specs.declared.order.Track.{Track}
 use Rattle.mmc.specs.declared.order.Method.{Method}
@@ -23,17 +22,16 @@ use Rattle.recorder.specs.declared.replies.Reading.{Reading}
 use Rattle.recorder.specs.declared.exchanges.Seen.{Seen}
 use Rattle.recorder.specs.Answers.{because}
 use Rattle.recorder.specs.Replies.{reading}
-use Rattle.recorder.specs.Script.{code, trackIn, isPolled, portion, writes, writesFor, writesFrom, eachTrack, script}
-use Rattle.recorder.specs.Exchanges.{Exchange, read, seen}
-use Rattle.recorder.specs.Rules.{toCome, charge, needed, leadOut, lastFrame, unusable, fits, Judgement, onward, tested, discTests, erases, erasingIf, openingTests, laterTests, trackTests, isLast, pollsIf, judge, judged, move, left, Found, none, found, refusedBy, firstRefused}
+use Rattle.recorder.specs.Script.{code, trackIn, isPolled, portion, writes, writesFor, eachTrack, script}
+use Rattle.recorder.specs.Exchanges.{Exchange, seen}
+use Rattle.recorder.specs.Rules.{toCome, charge, needed, unusable, fits, Judgement, onward, tested, discTests, erases, erasingIf, openingTests, laterTests, trackTests, isLast, pollsIf, judge, judged, move, left, none, found, refusedBy, firstRefused}
 use Rattle.recorder.specs.Places.{pieceOf}
-use Rattle.recorder.specs.History.{informationsIn, informations, earlier, driveGap, Follows, Spaced, startAfter, lastEnd}
+use Rattle.recorder.specs.History.{informationsIn, informations, earlier, driveGap, Follows, Spaced, lastEnd}
 use Rattle.recorder.proofs.Lists.{clash, if-no, false-true, neither, none-found, passed-clear, clear-passes, tested-by}
 use Rattle.recorder.proofs.Turns.{made, Played, nothing, then, isAsking, Reads, busy, not-ready, failed, malformed, profile, status, information, indication, ready, unread, reads}
 use Rattle.recorder.proofs.Scripts.{by}
 use Rattle.recorder.proofs.Rulings.{refused-next, unrefused-last}
 use Rattle.recorder.proofs.Apart.{passed}
-use Rattle.recorder.proofs.Behind.{Sized}
 use Rattle.recorder.proofs.Standing.{blocksAfter, blocks-less, limits, fits-within}
 
 -- ---- what is needed is what such a drive takes

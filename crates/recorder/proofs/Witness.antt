@@ -37,7 +37,7 @@ use Rattle.recorder.specs.Exchanges.{Exchange, Named, see, seen, name, n
 use Rattle.recorder.specs.Rules.{otherProfile, lastStatus, unsuitable, unusable, toCome, still, charge, needed, leadOut, lastFrame, fits, tooLong, used, notErasable, tested, erasingTests, blankTests, discTests, erases, erasingIf, openingTests, laterTests, Judgement, onward, trackTests, pollsIf, judge, judged, move, left, none, refusedBy, firstRefused, ruled, exchanged, play}
 use Rattle.recorder.specs.Places.{pieceEnded, beforeBlock, afterCloseTrack, opAfter, pieceOf, afterIn}
 use Rattle.recorder.specs.Job.{dueAt}
-use Rattle.recorder.specs.History.{informationsIn, informations, driveGap, Follows, Spaced, AllMarkedGood, Bytes, AllBytes, discsIn, discs, Passing, Recordable, Suitable}
+use Rattle.recorder.specs.History.{informationsIn, informations, driveGap, Follows, AllMarkedGood, Bytes, AllBytes, discsIn, discs, Passing, Recordable, Suitable}
 use Rattle.recorder.proofs.Lists.{if-yes, if-no, false-true, both, neither, Clear, clear-passes, nothing-after, blocks-length}
 use Rattle.recorder.proofs.Turns.{made, Played, played, isAsking, Reads, busy, not-ready, failed, malformed, profile, status, information, indication, ready, unread, reads, profile-seen, erased-seen}
 use Rattle.recorder.proofs.Scripts.{by, each-blocks}
