@@ -88,8 +88,7 @@ each-turn : (o : Order) (k : ℕ) (xs : List Track) → k + length xs ≤ o .cou
 each-turn o k [] h = (other refl refl, tt)
 each-turn o k (x ∷ xs) h =
     let i = each-turn o (suc k) xs (omega arith) in
-    let b : suc k ≤ o .count = omega arith in
-    (
+    let b : suc k ≤ o .count = omega arith in (
       record { track = λ e. (refl, b); disc = λ e. absurd (false-true e) },
       (other refl refl, writes-turn (o .count) (suc k) (suc k) (x .length .0) 0 (writesFor (x .length .0 - 0)) _ (other refl refl, (other refl refl, i))),
     )

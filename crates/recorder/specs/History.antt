@@ -285,7 +285,7 @@ pub record Whole (b : List ℕ) (rs : List Reply) (h : History) : Type 0 where
   -- "a track begun at a stale address spoils the disc": of every WRITE that is given
   pub never-stale : (o : Order) → readOrder b ≡ pass o → stepwise (o .method) ≡ true → Every Fresh (h .exchanges) (h .last .answer)
   -- "TAO discs of many tracks stopped in the last with 10": on a drive that starts each track 152 blocks after the last one ends and whose
-  -- Free Blocks falls by what was taken, 10 stops no job after its first 52h has passed: no 52h was answered before the reply that 10 refused
+  -- Free Blocks falls by what was taken, 10 stops no job after its first 52h has passed: none had told of a track before the reply that 10 refused
   pub room-lasts : (o : Order) → readOrder b ≡ pass o → o .method ≡ Tao → Spaced o (informations (h .exchanges)) → ended (h .answers) ≡ as-stop (because 10) → informations (earlier (h .exchanges)) ≡ []
   -- "progress never skips a step"
   pub never-skips : (o : Order) → readOrder b ≡ pass o → Every (Unskipped (o .immed)) (h .exchanges) (h .last .answer)
