@@ -88,6 +88,7 @@ unusable m end i = i .damaged || (stepwise m && (not (i .addressed) || ltb (fram
 
 -- ---- what is needed from the track t on
 
+-- the tracks "still to come", this one among them
 abbrev pub toCome : Order → ℕ → List Track
 toCome o t = drop (t - 1) (tracksIn o)
 
@@ -95,7 +96,7 @@ toCome o t = drop (t - 1) (tracksIn o)
 abbrev pub still : Order → ℕ → ℕ
 still o t = blocksOf (toCome o t)
 
--- "Our drives start a track 152 blocks after the last one ends": what a track after the first is charged, "in TAO only"
+-- "Our drives start a track 152 blocks after the last one ends": what "Every TAO track after the first" is charged, SAO not
 abbrev pub gap : Method → ℕ
 gap Tao = 152
 gap Sao = 0
@@ -122,7 +123,7 @@ lastFrame = lastAddress + leadFrames
 unfoldable pub fits : Method → ℕ → TrackInformation → Bool
 fits m s i = leb s (i .free .0) && leb (leadOut m s i) lastFrame
 
--- "10 for S alone": "S above the lead-out limit, without address and Free Blocks (charged ..)"
+-- 10 "for S alone": "S above the lead-out limit, without address and Free Blocks (charged ..)"
 unfoldable pub tooLong : Order → Bool
 tooLong o = ltb lastAddress (needed o 1)
 
