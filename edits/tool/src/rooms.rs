@@ -126,11 +126,9 @@ impl Rooms {
             return Err(fault.clone());
         }
         for (of, at) in proved.lock().unwrap().iter() {
-            let from = self.rooms[*at].join("target/inc").join(of);
+            link(&self.rooms[*at].join("target/inc").join(of), &self.top.join("proved").join(of))?;
             for room in self.rooms.iter().filter(|r| **r != self.rooms[*at]) {
-                let to = room.join("target/inc").join(of);
-                let _ = fs::remove_dir_all(&to);
-                link(&from, &to)?;
+                as_proved(room, of)?;
             }
         }
         Ok(())
@@ -157,6 +155,13 @@ impl Rooms {
     }
 }
 
+/// Gives a room what the prover learnt of a crate as it stands. What it learns of a changed one it would have to learn anew at the next.
+fn as_proved(room: &Path, of: &str) -> Result<(), String> {
+    let to = room.join("target/inc").join(of);
+    let _ = fs::remove_dir_all(&to);
+    link(&room.with_file_name("proved").join(of), &to)
+}
+
 /// What `rt dev` says of a crate with some of its files changed, which are put back: its exit status, and all that it said.
 fn said_of(root: &Path, room: &Path, of: &str, texts: &Texts) -> (i32, String) {
     let folder = room.join("crates").join(of);
@@ -167,6 +172,7 @@ fn said_of(root: &Path, room: &Path, of: &str, texts: &Texts) -> (i32, String) {
     for file in texts.keys() {
         fs::copy(root.join("crates").join(of).join(file), folder.join(file)).expect("a room can be written");
     }
+    as_proved(room, of).expect("a room can be written");
     said
 }
 
