@@ -129,15 +129,15 @@ module _ (o : Order) (v : Seen) (is : List TrackInformation) where
   -- an erasing comes in front of a 51h, or none
   erased : (l : List Op) (b : Bool) → Heard o (ReadDiscInformation ∷ l) is → Heard o (move (onward (erasingIf b)) (ReadDiscInformation ∷ l)) is
   erased l true i = record { in-turn = (other refl refl, i .in-turn); latest = i .latest }
-  erased l false i = record { in-turn = i .in-turn .1; latest = i .latest }
+  erased l false i = polled ReadDiscInformation l false refl i
 
   -- a reply that passes
   heard-by : (x : Op) (l : List Op) (g : Bool) (r : Reading) → Reads x g r → refusedBy (judge o v x r) ≡ none → Heard o (x ∷ l) is → Heard o (move (judge o v x r) (x ∷ l)) (is ++ informationsIn r)
   heard-by x l g r (busy n) j i = unheard i
-  heard-by x l g r not-ready j i = unheard (record { in-turn = i .in-turn .1; latest = i .latest })
+  heard-by x l g r not-ready j i = unheard (polled x l false refl i)
   heard-by x l g r failed j i = absurd (none-found _ (sym j))
   heard-by x l g r (malformed a) j i = absurd (none-found _ (sym j))
-  heard-by x l g r profile j i = unheard (record { in-turn = i .in-turn .1; latest = i .latest })
+  heard-by x l g r profile j i = unheard (polled x l false refl i)
   heard-by x l g r (status {d = d}) j i =
       tested-by (λ (q : Judgement). refusedBy q ≡ none → Heard o (move q (x ∷ l)) (is ++ [])) (discTests (o .erase) o v d) (erasingIf (erases (o .erase) (v .erased) (d .status)))
       (λ c q. unheard (erased l (erases (o .erase) (v .erased) (d .status)) i)) (λ k q. absurd (none-found _ (sym q))) j
@@ -153,7 +153,7 @@ module _ (o : Order) (v : Seen) (is : List TrackInformation) where
         latest = said is w refl (subst (λ (k : ℕ). not (fits (o .method) (needed o k) w) ≡ false) h f);
       })
   heard-by x l g r (indication {n = n}) j i = unheard (polled x l (not (isLast (v .ready) n)) refl i)
-  heard-by x l g r ready j i = unheard (record { in-turn = i .in-turn .1; latest = i .latest })
+  heard-by x l g r ready j i = unheard (polled x l false refl i)
   heard-by x l g r (unread q n) j i = unheard (polled x l (isPolled (o .immed) x) (unasked x q) i)
     where
       unasked : (x : Op) → isAsking x ≡ false → next (length is) x ≡ length is

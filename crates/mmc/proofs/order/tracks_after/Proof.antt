@@ -1,5 +1,5 @@
 use mathlib.Core.Path.{_≡_}
-use Prim.Native.Nat.{_-_}
+use Prim.Native.Nat.{_-_, min}
 use native.Mathlib.Omega.{arith}
 use lib.ListN.{length, drop, length-take, length-drop}
 use borrow.Author.Needs.{needs}
@@ -12,18 +12,14 @@ use Rattle.mmc.proofs.order.tracks_after.Tie as tie
 rows : (c : tie.Start) → length (c .args .o .tracks) ≡ mostTracks
 rows c = search (needs, mapped-length)
 
-left : (c : tie.Start) → length (drop (c .args .first) (tracksIn (c .args .o))) ≡ length (tracksIn (c .args .o)) - c .args .first
-left c = length-drop (c .args .first) (tracksIn (c .args .o))
+left : (c : tie.Start) → length (drop (c .args .first) (tracksIn (c .args .o))) ≡ min (c .args .o .count) mostTracks - c .args .first
+left c = let a = c .args in omega (arith, rows c, length-drop (a .first) (tracksIn (a .o)), length-take (a .o .count) (a .o .tracks))
 
 returns : tie.Need-returns
-returns c =
-    let a = c .before .before in
-    omega (arith, rows a, left a, length-take (a .args .o .count) (a .args .o .tracks))
+returns c = omega (arith, left (c .before .before))
 
 returns-2 : tie.Need-returns-2
-returns-2 c =
-    let a = c .before .before in
-    omega (arith, rows a, left a, length-take (a .args .o .count) (a .args .o .tracks))
+returns-2 c = omega (arith, left (c .before .before))
 
 pub tracks-after-spec : {M : Type 1} → statement M
 tracks-after-spec = tie.close (tie.spec (λ c κs. search needs) (λ c. search needs) returns returns-2)
