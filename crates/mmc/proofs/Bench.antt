@@ -25,10 +25,11 @@ layout-sheets =
     }
 
 pub layout-cases : LayoutCases
-unfolding bytes32 be32 sumOf allZero checkSum sealed blockFault blockRead allNone validOrder methodOf keepOf protectOf immedOf eraseOf trackOf tracksOf kindsOk fieldsOf headOk orderOk readOrder closeTrackSession allKind allLong blocksOf mixedOrKept overlong sheetFault pageFault inRange hasTime framesTo addressAt isTime timeFrames addressAtTime timeOf addressOf writeRange writeBytes writeCommand
+unfolding bytes32 be32 sumOf allZero checkSum sealed blockFault blockRead allNone validOrder methodOf keepOf protectOf immedOf eraseOf row rows orderBody orderBytes trackOf tracksOf kindsOk fieldsOf headOk orderOk readOrder closeTrackSession allKind allLong blocksOf mixedOrKept overlong page sheetFault pageFault inRange hasTime framesTo addressAt isTime timeFrames addressAtTime timeOf addressOf writeRange writeBytes writeCommand
 layout-cases =
     record {
       mixed-or-kept = refl;
+      audio-in-tao = (refl, (refl, refl));
       time-ends = refl;
       address-ends = refl;
       write-ends = refl;

@@ -7,7 +7,7 @@ use lib.ListN.{length, drop}
 use lib.Dec.{leb, eqb}
 use Rattle.basics.specs.Bytes.{if}
 use Rattle.mmc.specs.declared.refusals.Refusal.{Refusal}
-use Rattle.mmc.specs.declared.refusals.Refusal.the-variants.{BlockLength, BlockCheck, FieldValue, ReplyForm, Profile, DiscStatus, TrackInformation, MixedOrKept, ShortTrack, NoRoom, ShortBuffer, DriveFailed, JobEnded, NoCueSheet, OutOfRange, NotErasable}
+use Rattle.mmc.specs.declared.refusals.Refusal.the-variants.{BlockLength, BlockCheck, FieldValue, ReplyForm, Profile, DiscStatus, TrackInformation, MixedOrKept, ShortTrack, NoRoom, ShortBuffer, DriveFailed, JobEnded, NoCueSheet, OutOfRange, NotErasable, AudioInTao}
 use Rattle.mmc.specs.declared.refusals.Made.{Made}
 use Rattle.mmc.specs.declared.refusals.Made.the-variants as M
 use Rattle.mmc.specs.declared.refusals.Check.{Check}
@@ -36,6 +36,7 @@ numberOf JobEnded = 13
 numberOf NoCueSheet = 14
 numberOf OutOfRange = 15
 numberOf NotErasable = 16
+numberOf AudioInTao = 24
 
 -- a number of the table, and whether it applies
 pub record Test : Type 0 where

@@ -167,12 +167,11 @@ pub(crate) fn track_count(o: Order) -> usize
     if ROWS < n { ROWS } else { n }
 }
 
-// Whether all tracks are of one kind.
-fn one_kind(o: Order) -> bool
-    ensures { λ r. ⌜ r ≡ allKind (orderKind o) (tracksIn o) ⌝ }
+// Whether all tracks are of a kind.
+pub fn all_kind(o: Order, kind: Kind) -> bool
+    ensures { λ r. ⌜ r ≡ allKind kind (tracksIn o) ⌝ }
 {
     let n = track_count(o);
-    let kind = order_kind(o);
     let tracks = o.tracks;
     let mut i: usize = 0;
     while i < n {
@@ -245,7 +244,7 @@ pub fn mixed_or_kept(o: Order) -> bool
             if o.keep {
                 return true;
             }
-            !one_kind(o)
+            !all_kind(o, order_kind(o))
         }
     }
 }

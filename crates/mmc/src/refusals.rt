@@ -20,6 +20,7 @@ pub enum Refusal {
     NoCueSheet,
     OutOfRange,
     NotErasable,
+    AudioInTao,
 }
 
 // What a maker answers: so many bytes stand at the start of the lent buffer, or none was touched.
@@ -55,5 +56,6 @@ pub fn number(r: Refusal) -> u8
         Refusal::NoCueSheet => 14,
         Refusal::OutOfRange => 15,
         Refusal::NotErasable => 16,
+        Refusal::AudioInTao => 24,
     }
 }

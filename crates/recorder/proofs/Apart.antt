@@ -37,7 +37,7 @@ pub passed : (o : Order) (t : ℕ) (v : Seen) (i : TrackInformation) → Clear (
 passed o t v i c = go (eqb t 1) (o .erase) refl refl c
   where
     go : (a b : Bool) → eqb t 1 ≡ a → o .erase ≡ b → Clear (if (a && not b) (openingTests o t v i) (laterTests o t v i)) → Passed o t v i
-    go true false e f c = record { usable = c .1 .1 .0; fitting = c .1 .1 .1 .1 .1 .0; opening = λ q h. c }
+    go true false e f c = record { usable = c .1 .1 .0; fitting = c .1 .1 .1 .1 .1 .1 .0; opening = λ q h. c }
     go true true e f c = record { usable = c .0; fitting = c .1 .0; opening = λ q h. absurd (false-true (sym h ∙ f)) }
     go false b e f c = record { usable = c .0; fitting = c .1 .0; opening = λ q h. absurd (false-true (sym e ∙ q)) }
 

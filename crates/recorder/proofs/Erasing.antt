@@ -19,9 +19,10 @@ use Rattle.recorder.specs.Script.{code, isErasing}
 use Rattle.recorder.specs.Exchanges.{Exchange, profile as profileSaid, disc, erased, unblank, seen}
 use Rattle.recorder.specs.Rules.{tooLong, used, notErasable, Judgement, onward, tested, erasingTests, blankTests, discTests, erases, erasingIf, judgeDisc, judge, judged, pollsIf, isLast, move, left}
 use Rattle.recorder.specs.History.{Each, Recordable, RightlyErased, ErasesRightly, BlankBefore, WritesOnBlank}
-use Rattle.recorder.proofs.Lists.{if-no, false-true, neither, Clear, tested-by}
+use Rattle.recorder.proofs.Lists.{if-no, false-true, neither, never, Clear, tested-by}
 use Rattle.recorder.proofs.Turns.{made, Played, nothing, then, Reads, busy, not-ready, failed, malformed, a46, a51, a03, profile, status, information, indication, ready, unread, reads, Turn, repeats, refuses, works, polls-begin, erases-first, asks, polls-on, polls-end, turn, profile-seen, erased-seen}
 use Rattle.recorder.proofs.Scripts.{isOfDisc, Past, script-past}
+use Rattle.recorder.proofs.Audio.{no-audio-so}
 
 -- ---- what the exchanges say of the disc, and what one more adds
 
@@ -60,20 +61,16 @@ pub data Stage (o : Order) (f : Facts) : List Op → Type 0 where
 
 -- ---- a reply to the first 51h
 
-never : (b : Bool) → b && false ≡ false
-never true = refl
-never false = refl
-
--- 8, 9 and 10 have passed
+-- 24, 8, 9 and 10 have passed
 recordable-so : (o : Order) (p : ℕ) (d : DiscInformation) → Clear (erasingTests o p d) → Recordable o
 unfolding tooLong
-recordable-so o p d c = record { alike = c .1 .1 .0; long = not-false _ (c .1 .1 .1 .0); ends = ltb-false _ _ (c .1 .1 .1 .1 .0) }
+recordable-so o p d c = record { no-audio = no-audio-so o (c .1 .1 .0); alike = c .1 .1 .1 .0; long = not-false _ (c .1 .1 .1 .1 .0); ends = ltb-false _ _ (c .1 .1 .1 .1 .1 .0) }
 
 -- a used disc that 16 lets pass is a CD-RW that is erasable
 rightly : (o : Order) (f : Facts) (d : DiscInformation) → o .erase ≡ true → f .erased ≡ false → Clear (erasingTests o (f .profile) d) → used (d .status) ≡ true → RightlyErased o (f .profile) d (f .erased)
 unfolding notErasable used
 rightly o f d e n c u =
-    let q = neither (not (eqb (f .profile) 0x000A)) (not (d .erasable)) (ap (λ (b : Bool). b && (not (eqb (f .profile) 0x000A) || not (d .erasable))) (sym u) ∙ c .1 .1 .1 .1 .1 .0) in
+    let q = neither (not (eqb (f .profile) 0x000A)) (not (d .erasable)) (ap (λ (b : Bool). b && (not (eqb (f .profile) 0x000A) || not (d .erasable))) (sym u) ∙ c .1 .1 .1 .1 .1 .1 .0) in
     record {
       flagged = e;
       recordable = recordable-so o (f .profile) d c;

@@ -18,7 +18,7 @@ use Rattle.recorder.specs.Script.{code, asksReady, isPoll, isErasing, ta
 use Rattle.recorder.specs.Exchanges.{Exchange, ends, polling, erased}
 use Rattle.recorder.specs.Rules.{Judgement, move, judged, left, none, refusedBy, firstRefused, ruled, exchanged, play}
 use Rattle.recorder.specs.History.{commandIn, going, as-done, ending, exactCount, AllWell, unpolled, answered}
-use Rattle.recorder.proofs.Lists.{if-yes, if-no, false-true, none-found, clash}
+use Rattle.recorder.proofs.Lists.{if-yes, if-no, false-true, never, none-found, clash}
 use Rattle.recorder.proofs.Turns.{made, Played, nothing, then, played, Turn, repeats, refuses, works, polls-begin, erases-first, asks, polls-on, polls-end, turn}
 use Rattle.recorder.proofs.Plans.{Unclosed, Scripted, Shape, working}
 use Rattle.recorder.proofs.Scripts.{Past, script-past, script-length, scripted}
@@ -153,13 +153,9 @@ script-counted (x ∷ l) z = if-no _ _ (z .1 .0) ∙ ap suc (script-counted l (z
 
 -- ---- without the flag there is no polling, and no poll
 
-never-polled : (b : Bool) → b && false ≡ false
-never-polled true = refl
-never-polled false = refl
-
 pub never-polling : (es : List Exchange) → polling false es ≡ false
 never-polling [] = refl
-never-polling (e ∷ es) = go (e .reply .good) (isPolled false (e .command .op)) (never-polled (takesImmed (e .command .op))) (ends es e) (polling false es) (never-polling es)
+never-polling (e ∷ es) = go (e .reply .good) (isPolled false (e .command .op)) (never (takesImmed (e .command .op))) (ends es e) (polling false es) (never-polling es)
   where
     go : (g b : Bool) → b ≡ false → (c p : Bool) → p ≡ false → if (g && b) true (if c false p) ≡ false
     go true b n true p q = if-no _ _ n

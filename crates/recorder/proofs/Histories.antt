@@ -9,9 +9,11 @@ use lib.Dec.{lit≤}
 use lib.ListN.{length, getD, length-append}
 use Rattle.basics.specs.Bytes.{if}
 use Rattle.mmc.specs.Refusals.{Outcome, pass, refuse}
+use Rattle.mmc.specs.Order.{tracksIn}
 use Rattle.mmc.specs.OrderBlock.{readOrder}
 use Rattle.mmc.specs.ReplyBlock.{Reply, replyOf}
 use Rattle.mmc.specs.declared.order.Order.{Order}
+use Rattle.mmc.specs.declared.order.Method.the-variants.{Tao}
 use Rattle.recorder.specs.declared.script.Op.{Op}
 use Rattle.recorder.specs.declared.script.Op.the-variants.{GetConfiguration, Blank}
 use Rattle.recorder.specs.declared.answers.Command.{Command}
@@ -24,11 +26,12 @@ use Rattle.recorder.specs.Script.{isPoll, isErasing, stepwise, write, Bl
 use Rattle.recorder.specs.Exchanges.{Exchange, recorded, occupied, polling, progress, profile, disc, erased, unblank, seen, named}
 use Rattle.recorder.specs.Rules.{left, none, found, refusal, ruled, exchanged, play, orderedIn, AllClosed}
 use Rattle.recorder.specs.Job.{Next, nextIn, dueAt, commandOf, mostCommands, latestProgress, unchanged, validOf, takenAs, takeOf, giveOf}
-use Rattle.recorder.specs.History.{History, taken, given, givenAll, history, commandIn, commands, going, as-done, as-stop, ending, ended, phaseIn, Accompanied, OfAnswer, Every, Fresh, Unskipped, RightlyErased, ErasesRightly, BlankBefore, WritesOnBlank, exactCount, AllWell, unpolled, answered, AllGood, Whole, Takes, Gives}
+use Rattle.recorder.specs.History.{History, taken, given, givenAll, history, commandIn, commands, going, as-done, as-stop, ending, ended, phaseIn, Accompanied, OfAnswer, Every, Fresh, Unskipped, RightlyErased, ErasesRightly, BlankBefore, WritesOnBlank, HasAudio, isOpening, OnlyOpens, exactCount, AllWell, unpolled, answered, AllGood, Whole, Takes, Gives}
 use Rattle.recorder.proofs.Lists.{if-yes, if-no, clash, false-true, same-order}
 use Rattle.recorder.proofs.Turns.{Played, nothing, played, progress-seen}
 use Rattle.recorder.proofs.Scripts.{script-length}
 use Rattle.recorder.proofs.Rulings.{ruled-at, rule-order, rule-done, due-poll, each-unskipped, rule-stop}
+use Rattle.recorder.proofs.Audio.{due-opens, each-opens}
 use Rattle.recorder.proofs.Erasing.{isLater, rightly-erased, on-blank, each-rightly, each-on-blank}
 use Rattle.recorder.proofs.Apart.{rule-apart}
 use Rattle.recorder.proofs.Charge.{needs-all, room-lasts}
@@ -127,6 +130,7 @@ record Latest (q : Outcome Order) (k : ℕ) (h : History) : Type 0 where
   unskipped : (o : Order) → q ≡ pass o → Played o (h .exchanges) → OfAnswer (Unskipped (o .immed) (h .exchanges)) (h .last .answer)
   rightly : (o : Order) → q ≡ pass o → Played o (h .exchanges) → OfAnswer (ErasesRightly o (h .exchanges)) (h .last .answer)
   on-blank : (o : Order) → q ≡ pass o → Played o (h .exchanges) → OfAnswer (WritesOnBlank o (h .exchanges)) (h .last .answer)
+  opening : (o : Order) → q ≡ pass o → o .method ≡ Tao → HasAudio (tracksIn o) → Played o (h .exchanges) → OfAnswer (OnlyOpens o (h .exchanges)) (h .last .answer)
   shows : (o : Order) → q ≡ pass o → Played o (h .exchanges) → ended (h .answers) ≡ going → latestProgress (h .last .state .progress) ≡ if (polling (o .immed) (h .exchanges)) (progress (h .exchanges)) 0
 
 no-commands : (a : Ruling) (l : List Command) → isEnd a ≡ true → l ≡ commandIn a ++ l
@@ -155,6 +159,9 @@ module _ (o : Order) (k : ℕ) (x : Op) (p : Poll) (n : ℕ) (xs : List Ruling) 
 
     on-blank-going : Played r es → (t f k : ℕ) → dueAt x p ≡ write t f k → BlankBefore r (disc es) (unblank es)
     on-blank-going w t f k e = on-blank r es (dueAt x p) (behindAt o x p) w plan-going (ap isLater e)
+
+    opening-going : r .method ≡ Tao → HasAudio (tracksIn r) → Played r es → isOpening (r .erase) (dueAt x p) ≡ true
+    opening-going e a w = due-opens r es (dueAt x p) (behindAt o x p) e a w plan-going
 
     unskipped-going : Played r es → isPoll (dueAt x p) ≡ polling (r .immed) es
     unskipped-going w = due-poll r es (dueAt x p) (behindAt o x p) w plan-going
@@ -195,6 +202,7 @@ latest-of q k h (open-so {o = o} {x = x} {p = p} {n = n} {xs = xs} {es = es} g) 
       unskipped = λ a f w. let i : o ≡ a = same-order o a f in unskipped-going o k x p n xs es g a i w;
       rightly = λ a f w. let i : o ≡ a = same-order o a f in rightly-going o k x p n xs es g a i w;
       on-blank = λ a f w. let i : o ≡ a = same-order o a f in on-blank-going o k x p n xs es g a i w;
+      opening = λ a f m s w. let i : o ≡ a = same-order o a f in opening-going o k x p n xs es g a i m s w;
       shows = λ a f w z. let i : o ≡ a = same-order o a f in shows-going o k x p n xs es g a i w;
     }
 latest-of q k h (over-so v) =
@@ -215,6 +223,7 @@ latest-of q k h (over-so v) =
       unskipped = λ o e w. no-command (Unskipped (o .immed) (h .exchanges)) (h .last .answer) (v .answer-ends);
       rightly = λ o e w. no-command (ErasesRightly o (h .exchanges)) (h .last .answer) (v .answer-ends);
       on-blank = λ o e w. no-command (WritesOnBlank o (h .exchanges)) (h .last .answer) (v .answer-ends);
+      opening = λ o e m s w. no-command (OnlyOpens o (h .exchanges)) (h .last .answer) (v .answer-ends);
       shows = λ o e w z. absurd (not-going (ruled q (h .exchanges)) (v .rules-over) (sym (v .so-ended) ∙ z));
     }
 
@@ -400,6 +409,7 @@ module _ (b : List ℕ) (rs : List Reply) where
         never-skips = λ o e. (each-unskipped o (h .exchanges) (played-here o e), l .unskipped o e (played-here o e));
         erases-rightly = λ o e. (each-rightly o (h .exchanges) (played-here o e), l .rightly o e (played-here o e));
         writes-on-blank = λ o e. (each-on-blank o (h .exchanges) (played-here o e), l .on-blank o e (played-here o e));
+        only-opens = λ o e m s. (each-opens o (h .exchanges) m s (played-here o e), l .opening o e m s (played-here o e));
         phase-so = l .phase-so;
         shows = λ o e z. l .shows o e (played-here o e) z;
       }

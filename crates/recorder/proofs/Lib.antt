@@ -3,6 +3,7 @@ pub mod Turns
 pub mod Plans
 pub mod Scripts
 pub mod Rulings
+pub mod Audio
 pub mod Erasing
 pub mod Apart
 pub mod Goods

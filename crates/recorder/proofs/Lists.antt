@@ -42,6 +42,10 @@ pub neither : (a b : Bool) → a || b ≡ false → (a ≡ false) × (b ≡ fals
 neither true b e = absurd (false-true (sym e))
 neither false b e = (refl, e)
 
+pub never : (b : Bool) → b && false ≡ false
+never true = refl
+never false = refl
+
 pub none-found : (w : Why) → none ≡ found w → ⊥
 none-found w e = clash (cc)
 

@@ -171,7 +171,7 @@ informed-sao o v i early p = go (o .erase) refl
     go false e =
         let c = p .opening refl e in
         let w = limits Sao (needed (by o Sao) 1) i (p .fitting) in
-        record { alike = c .1 .1 .1 .0; long = not-false _ (c .1 .1 .1 .1 .0); limit = omega arith }
+        record { alike = c .1 .1 .1 .1 .0; long = not-false _ (c .1 .1 .1 .1 .1 .0); limit = omega arith }
 
 -- with flag bit 3 8, 9 and the lead-out limit have passed before a 52h
 abbrev pub Early : Order → Op → Type 0

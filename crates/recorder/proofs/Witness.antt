@@ -42,6 +42,7 @@ use Rattle.recorder.proofs.Lists.{if-yes, if-no, false-true, both, neit
 use Rattle.recorder.proofs.Turns.{made, Played, played, isAsking, Reads, busy, not-ready, failed, malformed, profile, status, information, indication, ready, unread, reads, profile-seen, erased-seen}
 use Rattle.recorder.proofs.Scripts.{by, each-blocks}
 use Rattle.recorder.proofs.Rulings.{refused-next, ruled-at}
+use Rattle.recorder.proofs.Audio.{audio-clear}
 use Rattle.recorder.proofs.Behind.{Sized, tracksFrom, behind, onto, next-track, goes-on}
 use Rattle.recorder.proofs.Standing.{blocksAfter, fits-within, Standing, StandingThen, standing-closing, stood, stood-polled}
 use Rattle.recorder.proofs.Charge.{needed-tao, needed-less, Due, Heard, heard}
@@ -412,7 +413,7 @@ module _ (o : Order) (z : Sized o) (ok : Recordable o) (p : ℕ) (d : DiscInform
   clear-by t v i a b u f = go (eqb t 1) (o .erase) refl
     where
       go : (c w : Bool) → o .erase ≡ w → Clear (if (c && not w) (openingTests o t v i) (laterTests o t v i))
-      go true false e = (ap otherProfile a ∙ su .profile-so, (ap (unsuitable (o .method)) (b e) ∙ suitable-so e, (u, (ok .alike, (ap not (ok .long), (f, tt))))))
+      go true false e = (ap otherProfile a ∙ su .profile-so, (ap (unsuitable (o .method)) (b e) ∙ suitable-so e, (u, (audio-clear o (ok .no-audio), (ok .alike, (ap not (ok .long), (f, tt)))))))
       go true true e = (u, (f, tt))
       go false w e = (u, (f, tt))
 
@@ -448,7 +449,7 @@ module _ (o : Order) (z : Sized o) (ok : Recordable o) (p : ℕ) (d : DiscInform
   early-clear v a e =
       let n = ok .ends in
       let i = erasable-so e in
-      (ap otherProfile a ∙ su .profile-so, (i .0, (ok .alike, (ap not (ok .long), (le-ltb _ _ (ok .ends), (ap (λ (k : ℕ). notErasable k d) a ∙ i .1, tt))))))
+      (ap otherProfile a ∙ su .profile-so, (i .0, (audio-clear o (ok .no-audio), (ok .alike, (ap not (ok .long), (le-ltb _ _ (ok .ends), (ap (λ (k : ℕ). notErasable k d) a ∙ i .1, tt)))))))
 
   -- the first one puts an erasing in front if one takes place, and the one after it nothing
   passes-51 : (v : Seen) → v .profile ≡ p → (b : Bool) → v .erased ≡ b → judge o v ReadDiscInformation (Disc (discFor b)) ≡ onward (erasingIf (not b && wipes))

@@ -33,13 +33,18 @@ track k l = record { kind = k; length = record { 0 = l } }
 abbrev pub orderOf : Method → Bool → List Track → Order
 orderOf m keep ts = record { method = m; keep = keep; protect = false; immed = false; erase = false; count = length ts; tracks = ts ++ replicate (mostTracks - length ts) noTrack }
 
--- audio tracks of these lengths
-abbrev pub audio : List ℕ → List Track
-audio [] = []
-audio (l ∷ ls) = track Audio l ∷ audio ls
+-- tracks of a kind and of these lengths
+abbrev pub tracks : Kind → List ℕ → List Track
+tracks k [] = []
+tracks k (l ∷ ls) = track k l ∷ tracks k ls
+
+-- "document 01's TAO cases are of data tracks"; those of SAO are of audio tracks
+abbrev pub usual : Method → Kind
+usual Tao = Data
+usual Sao = Audio
 
 abbrev pub order : Method → List ℕ → Order
-order m ls = orderOf m false (audio ls)
+order m ls = orderOf m false (tracks (usual m) ls)
 
 -- a good reply that is whole for 46h, 51h and 52h alike: a disc status, byte 5, the profile's low byte, whose bit 0 is NWA_V, an
 -- address and free blocks
@@ -287,7 +292,7 @@ pub record EraseSheets : Type 0 where
   pub unflagged :
       take 1 (givenIn (order Tao (300 ∷ [])) (twice (rw 0x11)))
       ∷ take 1 (givenIn (order Sao (300 ∷ [])) (twice (rw 0x12)))
-      ∷ take 1 (givenIn (orderOf Sao true (audio (404850 ∷ 299 ∷ []))) (twice (saying 0x13 0 0x0B 0 0)))
+      ∷ take 1 (givenIn (orderOf Sao true (tracks Audio (404850 ∷ 299 ∷ []))) (twice (saying 0x13 0 0x0B 0 0)))
       ∷ []
       ≡ replicate 3 (0x52 ∷ [])
   -- 16: a CD-R, and a CD-RW whose bit 4 is clear, whatever the bits beside it
@@ -303,9 +308,9 @@ pub record EraseSheets : Type 0 where
   -- "4, 5, 6 for status 3, 8, 9, 10 for S alone, 16": each before those behind it, and status 2 and a blank disc judged too
   pub in-turn :
       wiping Sao (299 ∷ []) (saying 0x33 0 0x0B 0 0 ∷ saying 0x33 0 0x0B 0 0 ∷ [])
-      ∷ refusedIn (flagged (orderOf Sao true (audio (299 ∷ [])))) (twice (saying 0x13 0 0x0B 0 0))
-      ∷ refusedIn (flagged (orderOf Sao true (audio (299 ∷ [])))) (twice (cd-r 0x13))
-      ∷ refusedIn (flagged (orderOf Sao true (audio (299 ∷ [])))) (twice (cd-r 0x12))
+      ∷ refusedIn (flagged (orderOf Sao true (tracks Audio (299 ∷ [])))) (twice (saying 0x13 0 0x0B 0 0))
+      ∷ refusedIn (flagged (orderOf Sao true (tracks Audio (299 ∷ [])))) (twice (cd-r 0x13))
+      ∷ refusedIn (flagged (orderOf Sao true (tracks Audio (299 ∷ [])))) (twice (cd-r 0x12))
       ∷ refusedIn (flagged (orderOf Sao false (track Audio 300 ∷ track Data 299 ∷ []))) (twice (rw 0x10))
       ∷ wiping Tao (404850 ∷ 299 ∷ []) (twice (cd-r 0x12))
       ∷ wiping Tao (404850 ∷ []) (twice (cd-r 0x12))
@@ -435,6 +440,58 @@ pub record ChargeSheets : Type 0 where
   -- with just that room the job is done on a drive that starts each track 152 blocks after the last one ends
   pub lasting : ruled (pass threeTracks) (threefold (plain 0 0 1204) (plain 0 452 752) 23 (plain 0 904 300)) ≡ done
 
+-- ---- document 02: audio in TAO
+
+-- an audio track of l blocks between data tracks, so many on either side
+abbrev pub among : ℕ → ℕ → ℕ → Order
+among k l n = orderOf Tao false (tracks Data (replicate k 300) ++ (track Audio l ∷ tracks Data (replicate n 300)))
+
+pub record AudioSheets : Type 0 where
+  -- 24 "for one audio track among data tracks too": alone, the first, in the middle, the last, the last of 99
+  pub each-place :
+      opened (among 0 300 0) (plain 0 0 300)
+      ∷ opened (among 0 300 1) (plain 0 0 752)
+      ∷ opened (among 1 300 1) (plain 0 0 1204)
+      ∷ opened (among 2 300 0) (plain 0 0 1204)
+      ∷ opened (among 98 300 0) (plain 0 0 44596)
+      ∷ []
+      ≡ replicate 5 24
+  -- data tracks pass, and so do audio tracks in a session at once, with flag bit 3 too
+  pub passing :
+      opened (order Tao (300 ∷ 300 ∷ [])) (plain 0 0 752)
+      ∷ opened (orderOf Sao false (tracks Audio (300 ∷ 300 ∷ []))) (plain 0 0 600)
+      ∷ refusedIn (flagged (order Sao (300 ∷ []))) (twice (rw 0x12))
+      ∷ []
+      ≡ replicate 3 0
+  -- 4, 5, 6 and 7 come before it, 9 and 10 after it: not with a reply that is too short, another profile, a finalized disc, and Damage, but with
+  -- a short track and no room
+  pub in-turn :
+      after 2 (among 0 299 1) (saying 2 0x20 0x0B 0 0) (cut 27 (saying 2 0x20 0x0B 0 0))
+      ∷ opened (among 0 299 1) (saying 2 0x20 0x0B 0 0)
+      ∷ opened (among 0 299 1) (saying 2 0x20 9 0 0)
+      ∷ opened (among 0 299 1) (saying 0 0x20 9 0 0)
+      ∷ opened (among 0 299 1) (plain 0 404849 0)
+      ∷ []
+      ≡ 4 ∷ 5 ∷ 6 ∷ 7 ∷ 24 ∷ []
+  -- "with Ask 2's flag after the first 51h, also on a blank disc": 4, 5, 6 for status 3, 24; so before 9, 10 and 16
+  pub before-erasing :
+      refusedIn (flagged (among 0 299 1)) (rw 0x13 ∷ cut 33 (rw 0x13) ∷ [])
+      ∷ refusedIn (flagged (among 0 299 1)) (twice (saying 0x13 0 0x0B 0 0))
+      ∷ refusedIn (flagged (among 0 299 1)) (twice (cd-r 0x13))
+      ∷ refusedIn (flagged (among 0 299 1)) (twice (cd-r 0x12))
+      ∷ refusedIn (flagged (among 0 404850 0)) (twice (rw 0x11))
+      ∷ refusedIn (flagged (among 1 300 0)) (twice (rw 0x10))
+      ∷ refusedIn (flagged (among 1 300 0)) (twice (cd-r 0x00))
+      ∷ []
+      ≡ 4 ∷ 5 ∷ 6 ∷ replicate 4 24
+  -- the third reply is its last, with flag bit 3 the second; without the flag none is judged so before
+  pub commands :
+      length (played (among 0 300 1) (replicate 60 (plain 0 0 752)))
+      ∷ length (played (flagged (among 0 300 1)) (replicate 60 (rw 0x12)))
+      ∷ refusedIn (among 0 300 1) (twice (plain 0 0 752))
+      ∷ []
+      ≡ 3 ∷ 2 ∷ 0 ∷ []
+
 -- ---- document 01's sheets that are marked *, in its order, as one list with one statement. What the byte layouts say of a sheet
 -- stands by name in mmc's `Bench`
 
@@ -501,9 +558,9 @@ pub record OtherSheets : Type 0 where
   pub rewritable : opened (order Sao (300 ∷ [])) (saying 0 0 0x0A 0 300) ≡ 0
   -- a session at once of mixed kinds, and one to be kept appendable: 8
   pub mixed : opened (orderOf Sao false (track Audio 300 ∷ track Data 300 ∷ [])) (plain 0 0 600) ≡ 8
-  pub kept : opened (orderOf Sao true (audio (300 ∷ []))) (plain 0 0 300) ≡ 8
-  -- neither is refused in a track at once
-  pub tao-free : opened (orderOf Tao true (track Audio 300 ∷ track Data 300 ∷ [])) (plain 0 0 752) ≡ 0
+  pub kept : opened (orderOf Sao true (tracks Audio (300 ∷ []))) (plain 0 0 300) ≡ 8
+  -- a track at once may be kept so
+  pub tao-free : opened (orderOf Tao true (tracks Data (300 ∷ 300 ∷ []))) (plain 0 0 752) ≡ 0
   -- a reply to 51h of another type, by any of the three bits: 4
   pub other-type : opened (order Tao (300 ∷ [])) (plain 0x20 0 300) ∷ opened (order Tao (300 ∷ [])) (plain 0x40 0 300) ∷ opened (order Tao (300 ∷ [])) (plain 0x80 0 300) ∷ [] ≡ 4 ∷ 4 ∷ 4 ∷ []
   -- busy by the codes 70h and F0h; not by the deferred code 71h, nor with 13 bytes

@@ -2,11 +2,11 @@
 -- holds of every history.
 use mathlib.Core.Path.{_≡_}
 use mathlib.Core.Logic.{_↔_}
-use mathlib.Core.Bool.{Bool, true, false, _&&_, _||_}
+use mathlib.Core.Bool.{Bool, true, false, not, _&&_, _||_}
 use mathlib.Core.List.{List, [], _∷_, _++_}
 use Prim.Native.Nat.{ℕ, suc, _+_, _-_, _≤_, _<_, min}
 use lib.ListN.{length, getD}
-use lib.Dec.{ltb}
+use lib.Dec.{ltb, eqb}
 use Rattle.basics.specs.Bytes.{if}
 use Rattle.mmc.specs.Refusals.{pass}
 use Rattle.mmc.specs.Order.{noTrack, tracksIn, allLong, mixedOrKept}
@@ -18,6 +18,7 @@ use Rattle.mmc.specs.ReplyBlock.{Reply, replyOf}
 use Rattle.mmc.specs.declared.units.TrackNumber.{TrackNumber}
 use Rattle.mmc.specs.declared.order.Order.{Order}
 use Rattle.mmc.specs.declared.order.Track.{Track}
+use Rattle.mmc.specs.declared.order.Kind.the-variants.{Audio}
 use Rattle.mmc.specs.declared.order.Method.{Method}
 use Rattle.mmc.specs.declared.order.Method.the-variants.{Tao, Sao}
 use Rattle.recorder.specs.declared.script.Op.{Op}
@@ -31,7 +32,7 @@ use Rattle.recorder.specs.declared.job.Phase.the-variants.{Idle, Going, 
 use Rattle.recorder.specs.declared.job.Recorder.{Recorder}
 use Rattle.recorder.specs.declared.job.Step.{Step}
 use Rattle.recorder.specs.Answers.{Why, because, drive-failed, Ruling, issue, done, stop, madeFor, bytesIn}
-use Rattle.recorder.specs.Script.{gather, asksReady, isPoll, stepwise, write, Block, script, expected}
+use Rattle.recorder.specs.Script.{code, gather, asksReady, isPoll, stepwise, write, Block, script, expected}
 use Rattle.recorder.specs.Replies.{ofDisc, ofInformation}
 use Rattle.recorder.specs.Places.{pieceOf}
 use Rattle.recorder.specs.Exchanges.{Exchange, read, gathered, recorded, occupied, polling, progress, profile, disc, erased, unblank, Named, named}
@@ -148,13 +149,22 @@ Unskipped immed before c = isPoll (c .op) ≡ polling immed before
 
 -- ---- "No disc may be wiped for an order known to be bad"
 
--- an order that passes 8, 9 and, with what lies between its tracks, the lead-out limit
+-- one of these tracks is audio, whatever stands before and after it
+pub record HasAudio (xs : List Track) : Type 0 where
+  pub before : List Track
+  pub track : Track
+  pub after : List Track
+  pub among : xs ≡ before ++ (track ∷ after)
+  pub is-audio : track .kind ≡ Audio
+
+-- an order that passes 24, 8, 9 and, with what lies between its tracks, the lead-out limit
 pub record Recordable (o : Order) : Type 0 where
+  pub no-audio : o .method ≡ Tao → HasAudio (tracksIn o) → ⊥
   pub alike : mixedOrKept o ≡ false
   pub long : allLong (tracksIn o) ≡ true
   pub ends : needed o 1 ≤ lastAddress
 
--- an A1h, where 46h said the profile p and 51h the disc d: the order has flag bit 3 and passes 8, 9 and the lead-out limit; the profile is
+-- an A1h, where 46h said the profile p and 51h the disc d: the order has flag bit 3 and passes 24, 8, 9 and the lead-out limit; the profile is
 -- 000Ah, so 5 passes too; the disc is erasable, and of status 1 or 2; and no erasing has taken place
 pub record RightlyErased (o : Order) (p : ℕ) (d : DiscInformation) (before : Bool) : Type 0 where
   pub flagged : o .erase ≡ true
@@ -179,6 +189,15 @@ pub record BlankBefore (o : Order) (d : DiscInformation) (unblank : Bool) : Type
 
 abbrev pub WritesOnBlank : Order → List Exchange → Command → Type 0
 WritesOnBlank o before c = (t f k : ℕ) → c .op ≡ write t f k → BlankBefore o (disc before) (unblank before)
+
+-- ---- "No more spoken tracks in TAO"
+
+-- "no command but 46h, 51h and 52h", with flag bit 3 no 52h either
+abbrev pub isOpening : Bool → Op → Bool
+isOpening erase x = eqb (code x) 0x46 || (eqb (code x) 0x51 || (eqb (code x) 0x52 && not erase))
+
+abbrev pub OnlyOpens : Order → List Exchange → Command → Type 0
+OnlyOpens o before c = isOpening (o .erase) (c .op) ≡ true
 
 -- ---- "Count what lies between tracks"
 
@@ -293,6 +312,8 @@ pub record Whole (b : List ℕ) (rs : List Reply) (h : History) : Type 0 where
   pub erases-rightly : (o : Order) → readOrder b ≡ pass o → Every (ErasesRightly o) (h .exchanges) (h .last .answer)
   -- and nothing is written on one that was erased before "51h is asked anew and must say blank"
   pub writes-on-blank : (o : Order) → readOrder b ≡ pass o → Every (WritesOnBlank o) (h .exchanges) (h .last .answer)
+  -- "audio in TAO is retired .. A job with one gets no command but 46h, 51h and 52h"
+  pub only-opens : (o : Order) → readOrder b ≡ pass o → o .method ≡ Tao → HasAudio (tracksIn o) → Every (OnlyOpens o) (h .exchanges) (h .last .answer)
   -- what the panel shows: how the job stands, and while it goes on the progress of the polling under way
   pub phase-so : h .last .state .phase ≡ phaseIn (ended (h .answers))
   pub shows : (o : Order) → readOrder b ≡ pass o → ended (h .answers) ≡ going → latestProgress (h .last .state .progress) ≡ if (polling (o .immed) (h .exchanges)) (progress (h .exchanges)) 0

@@ -7,12 +7,13 @@ use lib.ListN.{length, drop}
 use lib.Dec.{ltb, leb, eqb}
 use Rattle.basics.specs.Bytes.{if}
 use Rattle.mmc.specs.Refusals.{Outcome, pass, refuse, numberOf, Test, test}
-use Rattle.mmc.specs.Order.{tracksIn, blocksOf, mixedOrKept, shortTrack}
+use Rattle.mmc.specs.Order.{tracksIn, allKind, blocksOf, mixedOrKept, shortTrack}
 use Rattle.mmc.specs.Times.{lastAddress, leadFrames, framesTo, addressAt}
 use Rattle.mmc.specs.ReplyBlock.{Reply}
 use Rattle.mmc.specs.declared.units.FrameCount.{FrameCount}
 use Rattle.mmc.specs.declared.order.Order.{Order}
 use Rattle.mmc.specs.declared.order.Track.{Track}
+use Rattle.mmc.specs.declared.order.Kind.the-variants.{Data}
 use Rattle.mmc.specs.declared.order.Method.{Method}
 use Rattle.mmc.specs.declared.order.Method.the-variants.{Tao, Sao}
 use Rattle.recorder.specs.declared.script.Op.{Op}
@@ -51,7 +52,7 @@ judgementIn D.Erase = onward erasing
 judgementIn (D.Refused r) = refused (because (numberOf r))
 judgementIn (D.Failed s) = refused (drive-failed s)
 
--- ---- the numbers 5, 6, 7, 10 and 16, of what was read; 8 and 9 are of the order alone (mmc's `Order`)
+-- ---- the numbers 5, 6, 7, 10 and 16, of what was read; 24 is of the order alone, as 8 and 9 are (mmc's `Order`)
 
 -- "CD-R (profile 0009h) and CD-RW (000Ah)"
 abbrev pub cdR : ℕ
@@ -85,6 +86,16 @@ unsuitable m status = ltb (lastStatus m) status
 -- 7: "Damage set; or, in TAO, NWA_V clear or an address below the end of the job's previous track", where the next block would go
 unfoldable pub unusable : Method → FrameCount → TrackInformation → Bool
 unusable m end i = i .damaged || (stepwise m && (not (i .addressed) || ltb (framesTo (i .address) .0) (end .0)))
+
+-- ---- 24, of the order alone
+
+-- "TAO with an audio track", "for one audio track among data tracks too"; of SAO never
+abbrev pub audioBy : Method → List Track → Bool
+audioBy Tao xs = not (allKind Data xs)
+audioBy Sao xs = false
+
+abbrev pub audioInTao : Order → Bool
+audioInTao o = audioBy (o .method) (tracksIn o)
 
 -- ---- what is needed from the track t on
 
@@ -139,11 +150,13 @@ notErasable p d = used (d .status) && (not (eqb p cdRw) || not (d .erasable))
 
 -- ---- a reply to 51h, with flag bit 3
 
--- "with the flag the order after the first 51h is 4, 5, 6 for status 3, 8, 9, 10 for S alone, 16"
+-- "with the flag the order after the first 51h is 4, 5, 6 for status 3, 8, 9, 10 for S alone, 16"; 24 "just before 8, and with Ask 2's flag also
+-- before erasing"
 abbrev pub erasingTests : Order → ℕ → DiscInformation → List Test
 erasingTests o p d =
     test (otherProfile p) 5
     ∷ test (ltb finalized (d .status)) 6
+    ∷ test (audioInTao o) 24
     ∷ test (mixedOrKept o) 8
     ∷ test (shortTrack o) 9
     ∷ test (tooLong o) 10
@@ -170,12 +183,13 @@ judgeDisc o v d = tested (discTests (o .erase) o v d) (erasingIf (erases (o .era
 
 -- ---- a reply to 52h, before the track t
 
--- "5 to 10 are judged after the third"
+-- "5 to 10 are judged after the third", 24 "just before 8"
 abbrev pub openingTests : Order → ℕ → Seen → TrackInformation → List Test
 openingTests o t v i =
     test (otherProfile (v .profile)) 5
     ∷ test (unsuitable (o .method) (v .status)) 6
     ∷ test (unusable (o .method) (v .at) i) 7
+    ∷ test (audioInTao o) 24
     ∷ test (mixedOrKept o) 8
     ∷ test (shortTrack o) 9
     ∷ test (not (fits (o .method) (needed o t) i)) 10

@@ -1,4 +1,4 @@
-// The judgement of a reply: what the rules look at, and the numbers 4 to 10, 12 and 16.
+// The judgement of a reply: what the rules look at, and the numbers 4 to 10, 12, 16 and 24.
 ghost use mathlib.Core.Path.{_≡_};
 ghost use mathlib.Core.List.{[], _∷_};
 ghost use Prim.Native.Nat.{_-_, _≤_, _<_, _^_};
@@ -7,7 +7,7 @@ ghost use Rattle.mmc.specs.Refusals.{test};
 ghost use Rattle.mmc.specs.Times.{framesTo};
 ghost use Rattle.recorder.specs.Replies.{Unsigned, UnsignedIn, ForTrack};
 ghost use Rattle.recorder.specs.Script.{trackIn, isPolled};
-ghost use Rattle.recorder.specs.Rules.{otherProfile, unsuitable, unusable, gap, charge, needed, fits, tooLong, used, notErasable, tested, erasingTests, erasingIf, judgeDisc, trackTests, pollsIf, isLast, onward, judgementIn, untested, judge};
+ghost use Rattle.recorder.specs.Rules.{otherProfile, unsuitable, unusable, audioInTao, gap, charge, needed, fits, tooLong, used, notErasable, tested, erasingTests, erasingIf, judgeDisc, trackTests, pollsIf, isLast, onward, judgementIn, untested, judge};
 use crate::exchanges::Seen;
 use crate::exchanges::frames_to;
 use crate::replies::DiscInformation;
@@ -18,9 +18,11 @@ use crate::script::Op;
 use crate::script::is_stepwise;
 use crate::script::takes_immed;
 use crate::script::track_of;
+use mmc::order::Kind;
 use mmc::order::LAST_LEAD_OUT;
 use mmc::order::Method;
 use mmc::order::Order;
+use mmc::order::all_kind;
 use mmc::order::all_long;
 use mmc::order::blocks_after;
 use mmc::order::mixed_or_kept;
@@ -96,6 +98,17 @@ fn unusable_track(m: Method, end: FrameCount, start: u64, i: TrackInformation) -
         return true;
     }
     start < end.0 as u64
+}
+
+// 24: a track at once with an audio track.
+fn audio_in_tao(o: Order) -> bool
+    ensures { λ r. ⌜ r ≡ audioInTao o ⌝ }
+{
+    let m = o.method;
+    match m {
+        Method::Tao => !all_kind(o, Kind::Data),
+        Method::Sao => false,
+    }
 }
 
 // How many blocks lie between a track and the next: none in a session at once.
@@ -180,16 +193,17 @@ fn not_erasable(profile: u16, d: DiscInformation) -> bool
     !d.erasable
 }
 
-// The first of the numbers 5 to 10 that applies.
+// The first of the numbers 5 to 10 and 24 that applies, 24 just before 8.
 fn first_of(
     profile: bool,
     status: bool,
     track: bool,
+    audio: bool,
     order: bool,
     short: bool,
     full: bool,
 ) -> Verdict
-    ensures { λ r. ⌜ judgementIn r ≡ tested (test profile 5 ∷ test status 6 ∷ test track 7 ∷ test order 8 ∷ test short 9 ∷ test full 10 ∷ []) [] ⌝ }
+    ensures { λ r. ⌜ judgementIn r ≡ tested (test profile 5 ∷ test status 6 ∷ test track 7 ∷ test audio 24 ∷ test order 8 ∷ test short 9 ∷ test full 10 ∷ []) [] ⌝ }
 {
     if profile {
         return Verdict::Refused(Refusal::Profile);
@@ -199,6 +213,9 @@ fn first_of(
     }
     if track {
         return Verdict::Refused(Refusal::TrackInformation);
+    }
+    if audio {
+        return Verdict::Refused(Refusal::AudioInTao);
     }
     if order {
         return Verdict::Refused(Refusal::MixedOrKept);
@@ -219,15 +236,16 @@ fn erasing_if(due: bool) -> Verdict
     if due { Verdict::Erase } else { Verdict::Onward }
 }
 
-// Judges the first READ DISC INFORMATION of a job that may erase the disc: 5 to 10 as far as they are known, and 16.
+// Judges the first READ DISC INFORMATION of a job that may erase the disc: 5 to 10 as far as they are known, with 24, and 16.
 fn judge_used(o: Order, profile: u16, d: DiscInformation) -> Verdict
     ensures { λ r. ⌜ judgementIn r ≡ tested (erasingTests o profile d) (erasingIf (used (d .status))) ⌝ }
 {
     let other = other_profile(profile);
+    let audio = audio_in_tao(o);
     let order = mixed_or_kept(o);
     let short = !all_long(o);
     let full = is_too_long(o);
-    let fault = first_of(other, FINALIZED < d.status, false, order, short, full);
+    let fault = first_of(other, FINALIZED < d.status, false, audio, order, short, full);
     let Verdict::Onward = fault else {
         return fault;
     };
@@ -245,12 +263,12 @@ fn judge_disc(o: Order, v: Seen, d: DiscInformation) -> Verdict
         return Verdict::Onward;
     }
     if v.erased {
-        return first_of(false, BLANK < d.status, false, false, false, false);
+        return first_of(false, BLANK < d.status, false, false, false, false, false);
     }
     judge_used(o, v.profile, d)
 }
 
-// Judges READ TRACK INFORMATION before a track: that of the first judges 5 to 10, a later one 7 and 10. So does the first of a job that may
+// Judges READ TRACK INFORMATION before a track: that of the first judges 5 to 10 and 24, a later one 7 and 10. So does the first of a job that may
 // erase the disc, where the others were judged before.
 fn judge_track(o: Order, track: u16, v: Seen, i: TrackInformation) -> Verdict
     requires { ⌜ 1 ≤ track ⌝ }
@@ -263,7 +281,7 @@ fn judge_track(o: Order, track: u16, v: Seen, i: TrackInformation) -> Verdict
     let start = frames_to(address);
     let unusable = unusable_track(m, at, start, i);
     let full = !it_fits(m, needed_from(o, track), start, i);
-    let later = first_of(false, false, unusable, false, false, full);
+    let later = first_of(false, false, unusable, false, false, false, full);
     if track != 1 {
         return later;
     }
@@ -272,9 +290,10 @@ fn judge_track(o: Order, track: u16, v: Seen, i: TrackInformation) -> Verdict
     }
     let profile = other_profile(v.profile);
     let status = unsuitable_status(m, v.status);
+    let audio = audio_in_tao(o);
     let order = mixed_or_kept(o);
     let short = !all_long(o);
-    first_of(profile, status, unusable, order, short, full)
+    first_of(profile, status, unusable, audio, order, short, full)
 }
 
 // Whether an operation is polled: one that takes Immed, with the flag.

@@ -9,7 +9,7 @@ use borrow.Author.Tests.{eqb-true}
 use Rattle.basics.specs.Bytes.{if}
 use Rattle.mmc.specs.Refusals.{Outcome, pass, refuse, unless, numberOf, answerOf, bufferOf, Fills}
 use Rattle.mmc.specs.declared.refusals.Refusal.{Refusal}
-use Rattle.mmc.specs.declared.refusals.Refusal.the-variants.{BlockLength, BlockCheck, FieldValue, ReplyForm, Profile, DiscStatus, TrackInformation, MixedOrKept, ShortTrack, NoRoom, ShortBuffer, DriveFailed, JobEnded, NoCueSheet, OutOfRange, NotErasable}
+use Rattle.mmc.specs.declared.refusals.Refusal.the-variants.{BlockLength, BlockCheck, FieldValue, ReplyForm, Profile, DiscStatus, TrackInformation, MixedOrKept, ShortTrack, NoRoom, ShortBuffer, DriveFailed, JobEnded, NoCueSheet, OutOfRange, NotErasable, AudioInTao}
 use Rattle.mmc.specs.declared.refusals.Made.{Made}
 use Rattle.mmc.specs.declared.refusals.Made.the-variants as M
 
@@ -30,6 +30,7 @@ numbered JobEnded = refl
 numbered NoCueSheet = refl
 numbered OutOfRange = refl
 numbered NotErasable = refl
+numbered AudioInTao = refl
 
 -- what a maker promises of some bytes, it promises of all that are equal
 pub fills-of : {x y : Outcome (List ℕ)} {r : Made} {before after : List ℕ} → y ≡ x → Fills x r before after → Fills y r before after

@@ -13,8 +13,10 @@ returns-2 c = simp (c .enum-told .given .1)
 
 returns-3 : tie.Need-returns-3
 unfolding mixedOrKept
-returns-3 c = simp (c .before .before .enum-told2 .given .1, c .before .if1 .left, c .one-kind .ensures)
+returns-3 c =
+    let k = c .before in
+    simp (k .before .before .enum-told2 .given .1, k .before .if1 .left, k .order-kind .ensures, c .all-kind .ensures)
 
 pub mixed-or-kept-spec : {M : Type 1} → statement M
 mixed-or-kept-spec =
-    tie.close (tie.spec (λ c. search needs) (λ c. search needs) returns (λ c κs. search needs) returns-2 returns-3)
+    tie.close (tie.spec (λ c. search needs) (λ c. search needs) returns (λ c κs. search needs) (λ c κs. search needs) returns-2 returns-3)

@@ -26,6 +26,11 @@ returns-6 c =
     let b = c .before .before .before in
     simp (b .before .before .if1 .left, b .before .if2 .left, b .if3 .left, c .before .before .if4 .left, c .before .if5 .left, c .if6 .taken)
 
+returns-7 : tie.Need-returns-7
+returns-7 c =
+    let b = c .before .before .before in
+    simp (b .before .before .before .if1 .left, b .before .before .if2 .left, b .before .if3 .left, b .if4 .left, c .before .before .if5 .left, c .before .if6 .left, c .if7 .taken)
+
 pub first-of-spec : {M : Type 1} → statement M
 first-of-spec =
-    tie.close (tie.spec returns returns-2 returns-3 returns-4 returns-5 returns-6 (λ c. search needs))
+    tie.close (tie.spec returns returns-2 returns-3 returns-4 returns-5 returns-6 returns-7 (λ c. search needs))

@@ -16,7 +16,7 @@ use Rattle.recorder.proofs.rules.judge_track.Tie as tie
 opens : (o : Order) (t : ℕ) (v : Seen) (i : TrackInformation) → eqb t 1 ≡ true → o .erase ≡ false → tested (openingTests o t v i) [] ≡ tested (trackTests o t v i) []
 opens o t v i e f = rw (e, f)
 
--- of a later track 5, 6, 8 and 9 are false: the six tests compute to the two
+-- of a later track 5, 6, 24, 8 and 9 are false: the seven tests compute to the two
 returns : tie.Need-returns
 returns c =
     let k = c .before .before in
@@ -30,7 +30,7 @@ returns-2 c =
 
 returns-3 : tie.Need-returns-3
 returns-3 c =
-    let s = c .before .before .before in
+    let s = c .before .before .before .before in
     let e = s .before .before in
     let k = e .before .before .before in
     let a = k .before .before .before .before .before .before .args in
@@ -38,6 +38,7 @@ returns-3 c =
       c .first-of2 .ensures,
       s .before .other-profile .ensures,
       s .unsuitable-status .ensures,
+      c .before .before .before .audio-in-tao .ensures,
       c .before .before .mixed-or-kept .ensures,
       c .before .all-long .ensures,
       k .it-fits .ensures,
@@ -57,6 +58,7 @@ judge-track-spec =
     (λ c κs. search needs)
     returns
     returns-2
+    (λ c κs. search needs)
     (λ c κs. search needs)
     (λ c κs. search needs)
     (λ c κs. search needs)

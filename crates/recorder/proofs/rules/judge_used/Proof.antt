@@ -26,22 +26,22 @@ not-onward D.Erase h e = clash (cc)
 not-onward (D.Refused r) h e = clash (cc)
 not-onward (D.Failed s) h e = clash (cc)
 
--- 5 to 10
+-- 5 to 10 and 24
 abbrev early : Order → ℕ → DiscInformation → List Test
-early o p d = take 5 (erasingTests o p d)
+early o p d = take 6 (erasingTests o p d)
 
 abbrev start : tie.After-first-of → tie.Start
-start c = c .before .before .before .before .before .before
+start c = c .before .before .before .before .before .before .before
 
 judged : (c : tie.After-first-of) → judgementIn (c .first-of .result) ≡ tested (early (start c .args .o) (start c .args .profile) (start c .args .d)) []
 judged c =
     let f = c .before .before in
     let m = f .before .before in
-    simp (c .first-of .ensures, m .before .other-profile .ensures, m .mixed-or-kept .ensures, f .before .all-long .ensures, f .is-too-long .ensures)
+    simp (c .first-of .ensures, m .before .before .other-profile .ensures, m .before .audio-in-tao .ensures, m .mixed-or-kept .ensures, f .before .all-long .ensures, f .is-too-long .ensures)
 
 -- 16, and what comes next where it passes
 abbrev last : tie.Start → List Test
-last t = drop 5 (erasingTests (t .args .o) (t .args .profile) (t .args .d))
+last t = drop 6 (erasingTests (t .args .o) (t .args .profile) (t .args .d))
 
 abbrev due : tie.Start → List Op
 due t = erasingIf (used (t .args .d .status))
@@ -52,7 +52,7 @@ returns c =
     let a = start f .args in
     refused-first _ (early (a .o) (a .profile) (a .d)) (last (start f)) (due (start f)) (not-onward (f .first-of .result) (c .match .keys2)) (judged f)
 
--- where 5 to 10 pass, 16 is left
+-- where these pass, 16 is left
 left-16 : (c : tie.After-enum-told) → tested (erasingTests (start (c .before .before) .args .o) (start (c .before .before) .args .profile) (start (c .before .before) .args .d)) (due (start (c .before .before))) ≡ tested (last (start (c .before .before))) (due (start (c .before .before)))
 left-16 c =
     let f = c .before .before in
@@ -71,6 +71,7 @@ pub judge-used-spec : {M : Type 1} → statement M
 judge-used-spec =
     tie.close
     (tie.spec
+    (λ c κs. search needs)
     (λ c κs. search needs)
     (λ c κs. search needs)
     (λ c κs. search needs)

@@ -7,20 +7,17 @@ use borrow.Author.Needs.{needs}
 use Rattle.mmc.specs.Order.{allKind}
 use Rattle.basics.proofs.Lists.{mapped-length}
 use Rattle.mmc.proofs.order.Tracks.{capped, kind-next, kind-end}
-use Rattle.mmc.proofs.order.one_kind.Statement.{statement}
-use Rattle.mmc.proofs.order.one_kind.Tie as tie
+use Rattle.mmc.proofs.order.all_kind.Statement.{statement}
+use Rattle.mmc.proofs.order.all_kind.Tie as tie
 
 abbrev Inv-loop : tie.InvT-loop
-Inv-loop n kind tracks i₀ i = (i ≤ n) × (n ≤ 99) × (length tracks ≡ 99) × (allKind kind (drop i (take n tracks)) ≡ allKind kind (take n tracks))
+Inv-loop kind n tracks i₀ i = (i ≤ n) × (n ≤ 99) × (length tracks ≡ 99) × (allKind kind (drop i (take n tracks)) ≡ allKind kind (take n tracks))
 
 abbrev μ-loop : tie.MeasureT-loop
-μ-loop n kind tracks i₀ i = n - i
+μ-loop kind n tracks i₀ i = n - i
 
 track-count-requires : tie.Need-track-count-requires Inv-loop μ-loop
 track-count-requires c κs = search needs
-
-order-kind-requires : tie.Need-order-kind-requires Inv-loop μ-loop
-order-kind-requires c κs = search needs
 
 loop-holds : tie.Need-loop-holds Inv-loop μ-loop
 loop-holds c = (zero-le, search needs, search (needs, mapped-length), refl)
@@ -43,11 +40,12 @@ returns c =
     let t = s .before in
     let l = t .before .before .before in
     let g = l .before .before in
-    let n = g .before .track-count in
-    let o = g .before .before .args .o in
+    let n = g .track-count in
+    let o = g .before .args .o in
+    let k = g .before .args .kind in
     let v = l .loop .inv in
-    let w = ap (allKind (g .order-kind .result)) (ap (λ (m : ℕ). take m (o .tracks)) (n .ensures) ∙ capped (o .tracks) (o .count) (v .2)) in
-    sym (rw (← g .order-kind .ensures) (sym w ∙ sym (v .3) ∙ kind-next (o .tracks) (n .result) (l .loop .i) (omega arith) (omega arith) (g .order-kind .result) ∙ simp (← t .track-kind .ensures, ← s .same-kind .ensures, not-true (s .same-kind .result) (c .if1 .taken))))
+    let w = ap (allKind k) (ap (λ (m : ℕ). take m (o .tracks)) (n .ensures) ∙ capped (o .tracks) (o .count) (v .2)) in
+    sym (sym w ∙ sym (v .3) ∙ kind-next (o .tracks) (n .result) (l .loop .i) (omega arith) (omega arith) k ∙ simp (← t .track-kind .ensures, ← s .same-kind .ensures, not-true (s .same-kind .result) (c .if1 .taken)))
 
 add-i : tie.Need-add-i Inv-loop μ-loop
 add-i c = search needs
@@ -61,29 +59,30 @@ loop-again c =
     let t = s .before in
     let l = t .before .before .before in
     let g = l .before .before in
-    let n = g .before .track-count in
-    let o = g .before .before .args .o in
+    let n = g .track-count in
+    let o = g .before .args .o in
+    let k = g .before .args .kind in
     let v = l .loop .inv in
-    (omega arith, v .1, v .2, sym (kind-next (o .tracks) (n .result) (l .loop .i) (omega arith) (omega arith) (g .order-kind .result) ∙ simp (← t .track-kind .ensures, ← s .same-kind .ensures, not-false (s .same-kind .result) (c .if1 .left))) ∙ v .3)
+    (omega arith, v .1, v .2, sym (kind-next (o .tracks) (n .result) (l .loop .i) (omega arith) (omega arith) k ∙ simp (← t .track-kind .ensures, ← s .same-kind .ensures, not-false (s .same-kind .result) (c .if1 .left))) ∙ v .3)
 
 returns-2 : tie.Need-returns-2 Inv-loop μ-loop
 returns-2 c =
     let l = c .before in
     let g = l .before .before in
-    let n = g .before .track-count in
-    let o = g .before .before .args .o in
+    let n = g .track-count in
+    let o = g .before .args .o in
+    let k = g .before .args .kind in
     let v = l .loop .inv in
-    let w = ap (allKind (g .order-kind .result)) (ap (λ (m : ℕ). take m (o .tracks)) (n .ensures) ∙ capped (o .tracks) (o .count) (v .2)) in
-    rw (← g .order-kind .ensures) (sym (kind-end (o .tracks) (n .result) (l .loop .i) (omega arith) (omega arith) (g .order-kind .result)) ∙ v .3 ∙ w)
+    let w = ap (allKind k) (ap (λ (m : ℕ). take m (o .tracks)) (n .ensures) ∙ capped (o .tracks) (o .count) (v .2)) in
+    sym (kind-end (o .tracks) (n .result) (l .loop .i) (omega arith) (omega arith) k) ∙ v .3 ∙ w
 
-pub one-kind-spec : {M : Type 1} → statement M
-one-kind-spec =
+pub all-kind-spec : {M : Type 1} → statement M
+all-kind-spec =
     tie.close
     (tie.spec
     Inv-loop
     μ-loop
     track-count-requires
-    order-kind-requires
     loop-holds
     mul-track-kind
     array-copy-out-track-kind
