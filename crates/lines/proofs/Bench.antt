@@ -34,6 +34,7 @@ example-shown =
       unpolled = refl;
       erased = refl;
       not-erasable = refl;
+      audio = refl;
       ended = refl;
       awaited = refl;
       refused = refl;

@@ -52,6 +52,8 @@ pub record ExampleShown : Type 0 where
   -- an erasing, and a disc that can't be erased
   pub erased : busyLine Blank 2 0 0 ≡ codes "busy: BLANK\n"
   pub not-erasable : stoppedLine 16 noSense 2 ≡ codes "stopped: 16, disc cannot be erased, commands given: 2\n"
+  -- audio in a track at once
+  pub audio : stoppedLine 24 noSense 3 ≡ codes "stopped: 24, track at once with an audio track, commands given: 3\n"
   -- the ends
   pub ended : finishedLine 26 ≡ codes "finished, commands given: 26\n"
   pub awaited : waitingShown 0 ≡ codes "waiting, commands given: 0\n"

@@ -2,6 +2,8 @@
 use mathlib.Core.List.{List, [], _∷_, _++_}
 use Prim.Native.Nat.{ℕ, zero, suc, _*_, _/_, _%_}
 use lib.ListN.{getD}
+use lib.Dec.{eqb}
+use Rattle.basics.specs.Bytes.{if}
 use Rattle.recorder.specs.Answers.{number}
 use Rattle.recorder.specs.Script.{trackIn}
 use Rattle.recorder.specs.Places.{pieceOf}
@@ -95,10 +97,10 @@ words s =
     codes "disc cannot be erased" ∷
     []
 
--- a number that is none of them is out of range too
+-- 24 stands apart: 17 to 23 stop no job. A number that is none of these is out of range too
 unfoldable pub wordsOf : ℕ → Sense → List ℕ
 wordsOf zero s = codes "number out of range"
-wordsOf (suc r) s = getD (words s) r (codes "number out of range")
+wordsOf (suc r) s = if (eqb (suc r) 24) (codes "track at once with an audio track") (getD (words s) r (codes "number out of range"))
 
 -- "R, WORDS, commands given:"
 unfoldable pub reason : ℕ → Sense → List ℕ

@@ -173,6 +173,7 @@ fn add_words(line: &mut [u8], at: usize, number: u8, sense: Sense) -> usize
         13 => add(line, at, b"job already ended"),
         14 => add(line, at, b"no cue sheet"),
         16 => add(line, at, b"disc cannot be erased"),
+        24 => add(line, at, b"track at once with an audio track"),
         _ => add(line, at, b"number out of range"),
     }
 }

@@ -126,7 +126,7 @@ opens o es e a (then {es = before} {x = x} {l = l} p u q y) =
     let h : Opens (o .erase) (x ∷ l) = subst (Opens (o .erase)) q (i .1) in (
       unerased (o .erase) (y .good) (erased before) x l h ∙ i .0,
       subst (λ (m : List Op). Opens (o .erase) (move (judged o before (made o before x y)) m)) (sym q)
-      (opens-by o (audio-applies o e a) (seen (o .method) before) x l (y .good) (reading x y) (erased-seen (o .method) before ∙ i .0) (reads x y) h),
+          (opens-by o (audio-applies o e a) (seen (o .method) before) x l (y .good) (reading x y) (erased-seen (o .method) before ∙ i .0) (reads x y) h),
     )
 
 -- ---- what it says of the operation that is due

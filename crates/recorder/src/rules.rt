@@ -245,7 +245,15 @@ fn judge_used(o: Order, profile: u16, d: DiscInformation) -> Verdict
     let order = mixed_or_kept(o);
     let short = !all_long(o);
     let full = is_too_long(o);
-    let fault = first_of(other, FINALIZED < d.status, false, audio, order, short, full);
+    let fault = first_of(
+        other,
+        FINALIZED < d.status,
+        false,
+        audio,
+        order,
+        short,
+        full,
+    );
     let Verdict::Onward = fault else {
         return fault;
     };

@@ -5,7 +5,8 @@ use Prim.Native.Nat.{ℕ, zero, suc, _≤_, _<_}
 use native.Mathlib.Decide.{decLe}
 use native.Mathlib.Omega.{arith}
 use lib.Ieee.{toUnsigned}
-use lib.ListN.{List·getD-eq-default}
+use lib.ListN.{getD, List·getD-eq-default}
+use borrow.Author.Tests.{ne-eqb}
 use Rattle.recorder.specs.Job.{dueIn}
 use Rattle.recorder.specs.declared.replies.Sense.{Sense}
 use Rattle.recorder.specs.declared.script.Op.{Op}
@@ -31,12 +32,12 @@ past zero r m h = h
 past (suc k) r m h = omega (arith, past k r (m .0) h, m .1)
 
 -- 15, and a number that is none of the table's
-pub other : (r : ℕ) (s : Sense) → NoneTo 14 r → (r ≡ 16 → ⊥) → wordsOf r s ≡ codes "number out of range"
+pub other : (r : ℕ) (s : Sense) → NoneTo 14 r → (r ≡ 16 → ⊥) → (r ≡ 24 → ⊥) → wordsOf r s ≡ codes "number out of range"
 unfolding wordsOf
-other zero s m n = refl
-other (suc r) s m n = of (past 14 (suc r) m (omega arith)) (decLe 16 r)
+other zero s m n k = refl
+other (suc r) s m n k = rw (ne-eqb (suc r) 24 k) (of (past 14 (suc r) m (omega arith)) (decLe 16 r))
   where
-    of : 14 < suc r → Dec (16 ≤ r) → wordsOf (suc r) s ≡ codes "number out of range"
+    of : 14 < suc r → Dec (16 ≤ r) → getD (words s) r (codes "number out of range") ≡ codes "number out of range"
     of l (yes p) = List·getD-eq-default (words s) (codes "number out of range") p
     of l (no q) = let e : r ≡ 14 = omega arith in rw e
 

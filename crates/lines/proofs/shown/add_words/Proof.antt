@@ -67,10 +67,16 @@ unfolding codes wordsOf
 returns-15 c = let a = c .before .before .add14 .ensures in rw (c .before .before .before .before .before .match .keys15) (a, omega (arith, a .ends))
 
 returns-16 : tie.Need-returns-16
+unfolding codes wordsOf
+returns-16 c = let a = c .before .before .add15 .ensures in rw (c .before .before .before .before .before .match .keys16) (a, omega (arith, a .ends))
+
+returns-17 : tie.Need-returns-17
 unfolding codes
-returns-16 c =
-    let a = c .before .before .add15 .ensures in
-    rw (other (c .before .before .before .before .before .before .before .args .number) (c .before .before .before .before .before .before .before .args .sense) (c .before .before .before .before .before .match .rest .0) (c .before .before .before .before .before .match .rest .1)) (a, omega (arith, a .ends))
+returns-17 c =
+    let a = c .before .before .add16 .ensures in
+    let n = c .before .before .before .before .before .match .rest in
+    let k = c .before .before .before .before .before .before .before .args in
+    rw (other (k .number) (k .sense) (n .0 .0) (n .0 .1) (n .1)) (a, omega (arith, a .ends))
 
 pub add-words-spec : {M : Type 1} → statement M
 add-words-spec =
@@ -98,6 +104,8 @@ add-words-spec =
     (λ c κs. search needs)
     (λ c. search needs)
     (λ c κs. search needs)
+    (λ c κs. search needs)
+    (λ c. search needs)
     (λ c κs. search needs)
     (λ c. search needs)
     (λ c κs. search needs)
@@ -138,4 +146,6 @@ add-words-spec =
     (λ c. search needs)
     returns-15
     (λ c. search needs)
-    returns-16)
+    returns-16
+    (λ c. search needs)
+    returns-17)
