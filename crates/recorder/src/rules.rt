@@ -241,19 +241,12 @@ fn judge_used(o: Order, profile: u16, d: DiscInformation) -> Verdict
     ensures { λ r. ⌜ judgementIn r ≡ tested (erasingTests o profile d) (erasingIf (used (d .status))) ⌝ }
 {
     let other = other_profile(profile);
+    let status = FINALIZED < d.status;
     let audio = audio_in_tao(o);
     let order = mixed_or_kept(o);
     let short = !all_long(o);
     let full = is_too_long(o);
-    let fault = first_of(
-        other,
-        FINALIZED < d.status,
-        false,
-        audio,
-        order,
-        short,
-        full,
-    );
+    let fault = first_of(other, status, false, audio, order, short, full);
     let Verdict::Onward = fault else {
         return fault;
     };

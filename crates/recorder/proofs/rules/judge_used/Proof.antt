@@ -35,9 +35,9 @@ start c = c .before .before .before .before .before .before .before
 
 judged : (c : tie.After-first-of) → judgementIn (c .first-of .result) ≡ tested (early (start c .args .o) (start c .args .profile) (start c .args .d)) []
 judged c =
-    let f = c .before .before in
+    let f = c .before in
     let m = f .before .before in
-    simp (c .first-of .ensures, m .before .before .other-profile .ensures, m .before .audio-in-tao .ensures, m .mixed-or-kept .ensures, f .before .all-long .ensures, f .is-too-long .ensures)
+    simp (c .first-of .ensures, m .before .before .before .other-profile .ensures, m .before .audio-in-tao .ensures, m .mixed-or-kept .ensures, f .before .all-long .ensures, f .is-too-long .ensures)
 
 -- 16, and what comes next where it passes
 abbrev last : tie.Start → List Test
