@@ -29,7 +29,8 @@ unfolding bytes32 be32 sumOf allZero checkSum sealed blockFault blockRead allNon
 layout-cases =
     record {
       mixed-or-kept = refl;
-      audio-in-tao = (refl, (refl, refl));
+      audio-in-tao = refl;
+      audio-page = (refl, refl);
       time-ends = refl;
       address-ends = refl;
       write-ends = refl;

@@ -130,12 +130,9 @@ pub record LayoutCases : Type 0 where
       map sheetFault (mixed Sao false ∷ alike Sao true ∷ alike Sao false ∷ alike Tao false ∷ [])
       ++ map pageFault (mixed Sao false ∷ alike Sao true ∷ alike Sao false ∷ alike Tao true ∷ [])
       ≡ (8 ∷ 8 ∷ 0 ∷ 3 ∷ []) ++ (0 ∷ 8 ∷ 0 ∷ 0 ∷ [])
-  -- document 02: "Old order blocks are still read, written", TAO with an audio track among data tracks, and "the page maker is unchanged" of an audio
-  -- kind; there is no sheet: 3
-  pub audio-in-tao :
-      (readOf (mixed Tao false) ≡ pass (mixed Tao false))
-      × ((take 5 (page (mixed Tao false) Audio) ≡ 0x05 ∷ 0x32 ∷ 0x41 ∷ 0x00 ∷ 0x00 ∷ [])
-      × (pageFault (mixed Tao false) ∷ sheetFault (mixed Tao false) ∷ [] ≡ 0 ∷ 3 ∷ []))
+  -- document 02: "Old order blocks are still read, written", TAO with an audio track among data tracks too, "and the page maker is unchanged"
+  pub audio-in-tao : readOf (mixed Tao false) ≡ pass (mixed Tao false)
+  pub audio-page : (take 5 (page (mixed Tao false) Audio) ≡ 0x05 ∷ 0x32 ∷ 0x41 ∷ 0x00 ∷ 0x00 ∷ []) × (pageFault (mixed Tao false) ≡ 0)
   -- document 02: addresses "run from -45,150 to 404,849, times convert both ways"; "A WRITE still starts no lower than -150", and no higher
   -- than 404,849, however many blocks it takes
   pub time-ends : map timeOf (address (negsuc 45149) ∷ address (pos 404850) ∷ []) ≡ pass (time 90 0 0) ∷ refuse 15 ∷ []
