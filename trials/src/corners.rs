@@ -139,7 +139,7 @@ fn work_taken_on(list: &mut List) {
 
 /// "The 512-byte blocks": the order block.
 fn order_blocks(list: &mut List) {
-    let job = format!("order tao keep protect data 300 audio 300\n{OPEN}");
+    let job = format!("order tao keep protect data 300 data 300\n{OPEN}");
     let job = job.as_str();
     list.job("order-good", "waiting 4", "an order block that passes: both flags set", job);
     list.unsealed("order-check-high", "stop 2 0", "order: byte 510 differs: 2", job, (0, 510, 9));
@@ -164,7 +164,7 @@ fn order_blocks(list: &mut List) {
     }
     list.changed("order-count-0-no-rows", "stop 3 0", "order: track count 0 before empty rows: 3", &format!("order sao audio 0\n{OPEN}"), (0, 3, 0));
     list.changed("order-count-low", "stop 3 0", "order: a row beyond the count is not zero: 3", job, (0, 3, 1));
-    list.changed("order-count-high", "stop 9 3", "order: rows of zeros are audio tracks of 0 blocks; 9 later", job, (0, 3, 9));
+    list.changed("order-count-high", "stop 9 3", "order: rows of zeros are audio tracks of 0 blocks; 9 later", &format!("order sao audio 300 audio 300\n{OPEN}"), (0, 3, 9));
     list.changed("order-kind-first", "stop 3 0", "order: a kind that is neither 0 nor 1: 3", job, (0, 4, 2));
     list.changed("order-kind-last", "stop 3 0", "order: the last row's kind is 255: 3", job, (0, 9, 255));
     list.changed("order-padding-first", "stop 3 0", "order: the byte after the rows is not 0: 3", job, (0, 14, 1));
@@ -338,7 +338,7 @@ fn replies_52h(list: &mut List) {
 
 /// TAO: a fresh 52h before each track but the first, judged for 4, 7, 10.
 fn later_52h(list: &mut List) {
-    let order = "order tao data 300 data 301 audio 302\n";
+    let order = "order tao data 300 data 301 data 302\n";
     let first = format!("{order}{TWO}good track nwa 1000 free 1207\n{TRACK_300}");
     let second = |reply: &str| format!("{first}{reply}\n{TRACK_300}good track nwa 2000 free 302\n23 x good\n");
     let third = |reply: &str| format!("{first}good track nwa 1300 free 755\n{TRACK_300}{reply}\n23 x good\n");
@@ -446,7 +446,7 @@ fn precedence(list: &mut List) {
     list.job("first-7", "stop 7 3", "7 ahead of 8 to 10", &job(bad, "0009", "blank", damaged));
     list.job("first-8", "stop 8 3", "8 ahead of 9 and 10", &job(bad, "0009", "blank", full));
     list.job("first-9", "stop 9 3", "9 ahead of 10", &job("sao data 299 data 4294967295", "0009", "blank", full));
-    list.job("first-9-tao", "stop 9 3", "9 ahead of 10 in TAO", &job("tao data 299 audio 4294967295", "000A", "appendable", full));
+    list.job("first-9-tao", "stop 9 3", "9 ahead of 10 in TAO", &job("tao data 299 data 4294967295", "000A", "appendable", full));
     list.job("first-10", "stop 10 3", "10 alone", &job("sao data 300 data 4294967295", "0009", "blank", full));
     list.job("first-12-over-5", "stop 12 3 02 3A 00", "a failed third reply stops with 12 though the profile is bad", &job(bad, "0008", "finalized", "failed 02 3A 00"));
     list.job("first-12-over-4", "stop 12 1 00 00 00", "a failed reply without data is 12 and not 4", "order tao data 300\nfailed\n");
@@ -488,7 +488,7 @@ fn failures_everywhere(list: &mut List) {
     let tao = format!("{blank}good track nwa 0 free 753\n{TRACK_300}good track nwa 300 free 301\n{TAO_300}");
     let sao = format!("{blank}good track nwa 0 free 300\n{SAO_300}");
     for (method, order, replies) in [
-        ("tao", "order tao protect audio 300 data 301\n", tao),
+        ("tao", "order tao protect data 300 data 301\n", tao),
         ("sao", "order sao protect data 300\n", sao),
     ] {
         let lines = lines_of(&replies);
@@ -568,7 +568,7 @@ fn recording(list: &mut List) {
     }
     list.job("record-tao-address", "done 26", "TAO starts at the 52h's address", &format!("order tao data 300\n{TWO}good track nwa 123456 free 300\n{TAO_300}"));
     list.job("record-tao-three", "done 72", "each TAO track starts at its latest 52h's address", &format!(
-        "order tao keep data 300 audio 301 data 302\ngood profile 0009\ngood disc appendable\n\
+        "order tao keep data 300 data 301 data 302\ngood profile 0009\ngood disc appendable\n\
          good track nwa 11700 free 340000\n{TRACK_300}good track nwa 12152 free 339000\n{TRACK_300}\
          good track nwa 12605 free 338000\n23 x good\n"
     ));
@@ -591,7 +591,7 @@ fn counts(list: &mut List) {
     ));
     let many: String = (1..99).map(|i| format!("{TRACK_300}good track nwa {} free 50000\n", 301 * i)).collect();
     list.job("count-99-tao", "done 2280", "TAO, 99 tracks of 300: done 2280", &format!(
-        "order tao{}\n{OPEN}{many}{TAO_300}", " audio 300".repeat(99)
+        "order tao{}\n{OPEN}{many}{TAO_300}", " data 300".repeat(99)
     ));
     list.job("count-99-sao", "done 1897", "SAO, 99 tracks of 300: done 1897", &format!(
         "order sao{}\n{OPEN}1894 x good\n", " audio 300".repeat(99)

@@ -50,7 +50,7 @@ struct Shape {
 
 const SHAPES: [Shape; 4] = [
     Shape { name: "tao", tracks: "data 300", rest: tao_one, count: 26, pollings: 3 },
-    Shape { name: "tao-two", tracks: "audio 300 data 301", rest: tao_two, count: 49, pollings: 5 },
+    Shape { name: "tao-two", tracks: "data 300 data 301", rest: tao_two, count: 49, pollings: 5 },
     Shape { name: "sao", tracks: "data 300", rest: |poll| format!("32 x good\n{poll}"), count: 35, pollings: 1 },
     Shape { name: "sao-two", tracks: "audio 300 audio 301", rest: |poll| format!("51 x good\n{poll}"), count: 54, pollings: 1 },
 ];
@@ -556,7 +556,7 @@ fn track_information(list: &mut List) {
 
 /// Later 52h replies of an erasing TAO job.
 fn later_tracks(list: &mut List) {
-    let first = format!("order tao erase data 300 audio 301\n{USED}{ERASED}good track nwa 1000 free 753\n22 x good\n");
+    let first = format!("order tao erase data 300 data 301\n{USED}{ERASED}good track nwa 1000 free 753\n22 x good\n");
     let second = |reply: &str| format!("{first}{reply}\n{TAO_300}");
     list.job("erase-later-equal", "done 51", "second address equal to the previous end passes", &second("good track nwa 1300 free 301"));
     list.job("erase-later-above", "done 51", "second address above the previous end passes", &second("good track nwa 1450 free 301"));
@@ -579,7 +579,7 @@ fn later_tracks(list: &mut List) {
 fn every_command(list: &mut List) {
     let tao = format!("{USED}good\n{POLL}good disc blank\n{ROOM}{}", tao_two(POLL));
     let sao = format!("{FINALIZED}{ERASED}{ROOM}{SAO_300}");
-    each_disturbed(list, "erasing", "tao", "order tao protect immed erase audio 300 data 301\n", &tao);
+    each_disturbed(list, "erasing", "tao", "order tao protect immed erase data 300 data 301\n", &tao);
     each_disturbed(list, "erasing", "sao", "order sao protect erase data 300\n", &sao);
 }
 
@@ -636,15 +636,15 @@ fn long_jobs(list: &mut List) {
     let many = |track: &str| -> String {
         (1..99).map(|i| format!("{track}good track nwa {} free 50000\n", 301 * i)).collect()
     };
-    let tracks = " audio 300".repeat(99);
+    let [data, audio] = [" data 300", " audio 300"].map(|track| track.repeat(99));
     let (plain, polled) = ("22 x good\n", format!("21 x good\n{POLL}good\n{POLL}"));
-    list.job("erase-99-tao", "done 2282", "TAO, 99 tracks of 300: 2280 commands and an erasing", &format!("order tao erase{tracks}\n{USED}{ERASED}{ROOM}{}{TAO_300}", many(plain)));
-    list.job("erase-99-tao-blank", "done 2280", "TAO, 99 tracks of 300 on a blank disc: 2280 commands", &format!("order tao erase{tracks}\n{OPEN}{}{TAO_300}", many(plain)));
+    list.job("erase-99-tao", "done 2282", "TAO, 99 tracks of 300: 2280 commands and an erasing", &format!("order tao erase{data}\n{USED}{ERASED}{ROOM}{}{TAO_300}", many(plain)));
+    list.job("erase-99-tao-blank", "done 2280", "TAO, 99 tracks of 300 on a blank disc: 2280 commands", &format!("order tao erase{data}\n{OPEN}{}{TAO_300}", many(plain)));
     list.job("immed-erase-99-tao", "done 2682", "TAO, 99 tracks of 300: 2282 commands and 200 pollings", &format!(
-        "order tao immed erase{tracks}\n{USED}good\n{POLL}good disc blank\n{ROOM}{}{polled}good\n{POLL}", many(&polled)
+        "order tao immed erase{data}\n{USED}good\n{POLL}good disc blank\n{ROOM}{}{polled}good\n{POLL}", many(&polled)
     ));
-    list.job("erase-99-sao", "done 1899", "SAO, 99 tracks of 300: 1897 commands and an erasing", &format!("order sao erase{tracks}\n{FINALIZED}{ERASED}{ROOM}1894 x good\n"));
-    list.job("erase-99-16", "stop 16 2", "99 tracks on a disc that can't be erased: 16", &format!("order sao erase{tracks}\ngood profile 0009\ngood disc finalized\n"));
-    list.job("erase-99-last-short", "stop 9 2", "the 99th track has 299 blocks: 9, and no A1h", &format!("order tao erase{} audio 299\n{USED}", " audio 300".repeat(98)));
+    list.job("erase-99-sao", "done 1899", "SAO, 99 tracks of 300: 1897 commands and an erasing", &format!("order sao erase{audio}\n{FINALIZED}{ERASED}{ROOM}1894 x good\n"));
+    list.job("erase-99-16", "stop 16 2", "99 tracks on a disc that can't be erased: 16", &format!("order sao erase{audio}\ngood profile 0009\ngood disc finalized\n"));
+    list.job("erase-99-last-short", "stop 9 2", "the 99th track has 299 blocks: 9, and no A1h", &format!("order tao erase{} data 299\n{USED}", " data 300".repeat(98)));
     list.job("erase-99-last-kind", "stop 8 2", "the 99th track is of another kind: 8, and no A1h", &format!("order sao erase{} data 300\n{USED}", " audio 300".repeat(98)));
 }

@@ -44,7 +44,7 @@ pub(crate) struct Place {
 fn places() -> [Place; 5] {
     let tao = format!("order tao immed data 300\n{OPEN}{TO_35H}");
     let two = format!(
-        "order tao keep immed audio 300 data 301\n{OPEN}{TO_35H}{POLL}good\n{POLL}\
+        "order tao keep immed data 300 data 301\n{OPEN}{TO_35H}{POLL}good\n{POLL}\
          good track nwa 452 free 299548\n{TO_35H}"
     );
     let place = |name, before: String, after: String, given, total| Place { name, before, after, given, total };
@@ -414,7 +414,7 @@ fn order_flags(list: &mut List) {
 fn where_polled(list: &mut List) {
     let track = format!("{TO_35H}{POLL}good\n{POLL}");
     let three = format!(
-        "order tao keep immed data 300 audio 301 data 302\ngood profile 0009\ngood disc appendable\n\
+        "order tao keep immed data 300 data 301 data 302\ngood profile 0009\ngood disc appendable\n\
          good track nwa 11700 free 340000\n{track}good track nwa 12152 free 339000\n{track}\
          good track nwa 12605 free 338000\n{track}"
     );
@@ -443,7 +443,7 @@ fn every_command(list: &mut List) {
         "{blank}good track nwa 0 free 753\n{TO_35H}{POLL}good\n{POLL}good track nwa 300 free 301\n{}", tao_one(POLL)
     );
     let sao = format!("{blank}good track nwa 0 free 300\n{TO_SAO_35H}{POLL}");
-    each_disturbed(list, "polled", "tao", "order tao protect immed audio 300 data 301\n", &tao);
+    each_disturbed(list, "polled", "tao", "order tao protect immed data 300 data 301\n", &tao);
     each_disturbed(list, "polled", "sao", "order sao protect immed data 300\n", &sao);
 }
 
@@ -578,7 +578,7 @@ fn long_jobs(list: &mut List) {
     let track = format!("{TO_35H}{POLL}good\n{POLL}");
     let many: String = (1..99).map(|i| format!("{track}good track nwa {} free 50000\n", 301 * i)).collect();
     list.job("polled-99-tao", "done 2678", "TAO, 99 tracks of 300: 2280 commands and 199 pollings", &format!(
-        "order tao immed{}\n{OPEN}{many}{track}good\n{POLL}", " audio 300".repeat(99)
+        "order tao immed{}\n{OPEN}{many}{track}good\n{POLL}", " data 300".repeat(99)
     ));
     list.job("polled-99-sao", "done 1899", "SAO, 99 tracks of 300: 1897 commands and a polling", &format!(
         "order sao immed{}\n{OPEN}1894 x good\n{POLL}", " audio 300".repeat(99)
