@@ -1,7 +1,7 @@
 //! The plain job of document 01, "Recording rules", with the polling and the
-//! erasing of document 02, Asks 1 and 2, and what Ask 6 charges for the room
-//! between tracks: an order is taken, then replies are given; each time a
-//! command, the end as done, or a refusal comes out.
+//! erasing of document 02, Asks 1 and 2, what Ask 6 charges for the room between
+//! tracks, and Ask 12's end of audio in TAO: an order is taken, then replies are
+//! given; each time a command, the end as done, or a refusal comes out.
 //!
 //! The job is a flat list of steps with a place in it. The three opening
 //! steps stand there from the start; the others are laid down once the third
@@ -243,16 +243,15 @@ impl Job {
     }
 
     /// After the first 51h, with the flag for erasing alone: 5, 6 for status 3,
-    /// 8, 9, 10 for S alone (charged by Ask 6), 16. The steps of an erasing come
-    /// next where the disc is used.
+    /// 24, 8, 9, 10 for S alone (charged by Ask 6), 16. The steps of an erasing
+    /// come next where the disc is used.
     fn judge_disc(&mut self) -> Result<(), Refusal> {
         let Some(order) = self.order.as_ref().filter(|order| order.flags.erase) else {
             return Ok(());
         };
         check_profile(self.profile)?;
         require(self.disc.status != Disc::Other, Refusal::DiscStatus)?;
-        order.check_session()?;
-        order.check_lengths()?;
+        check_order(order)?;
         check_lead_out(Address(0).after(order.needed_from(0)))?;
         if self.disc.status != Disc::Blank {
             check_erasable(self.profile, self.disc)?;
@@ -262,8 +261,8 @@ impl Job {
         Ok(())
     }
 
-    /// After the opening's 52h 5 to 10, at a later 52h 7 and 10. With the flag
-    /// for erasing all but 7 and 10 were judged before.
+    /// After the opening's 52h 5, 6, 7, 24, 8, 9, 10, at a later 52h 7 and 10.
+    /// With the flag for erasing all but 7 and 10 were judged before.
     fn judge_track(&mut self, index: usize, info: TrackInformation) -> Result<(), Refusal> {
         let Some(order) = &self.order else {
             return Err(Refusal::Field);
@@ -276,8 +275,7 @@ impl Job {
         let previous_end = (index > 0).then_some(self.address);
         check_usable(order.method, info, previous_end)?;
         if judge_all {
-            order.check_session()?;
-            order.check_lengths()?;
+            check_order(order)?;
         }
         check_fit(order, index, info)?;
         self.address = start(order.method, info);
@@ -371,6 +369,13 @@ fn check_usable(
         require(!stale, Refusal::TrackInformation)?;
     }
     Ok(())
+}
+
+/// Numbers 24, 8 and 9, which are of the order alone.
+fn check_order(order: &Order) -> Result<(), Refusal> {
+    order.check_audio()?;
+    order.check_session()?;
+    order.check_lengths()
 }
 
 /// Number 10: S, which Ask 6 charges in TAO, is at most Free Blocks, and the
@@ -494,6 +499,16 @@ mod tests {
         })
     }
 
+    /// Damage, and no free block.
+    fn damaged() -> Reply {
+        track_reply(TrackFields {
+            next_writable: 0,
+            free: 0,
+            damaged: true,
+            address_valid: true,
+        })
+    }
+
     fn opening(disc: u8, third: Reply) -> Vec<Reply> {
         vec![profile_reply(9), disc_reply(disc, false), third]
     }
@@ -566,10 +581,9 @@ mod tests {
     /// Bench sheet: S equal to Free Blocks passes; one more: 10.
     #[test]
     fn bench_free_blocks() {
-        for method in ["tao", "sao"] {
-            let line = format!("{method} audio 400");
-            assert_eq!(stop(&line, 0, track(0, 400)).0, Answer::Done);
-            assert_eq!(stop(&line, 0, track(0, 399)), (refused(Refusal::Fit), 3));
+        for line in ["tao data 400", "sao audio 400"] {
+            assert_eq!(stop(line, 0, track(0, 400)).0, Answer::Done);
+            assert_eq!(stop(line, 0, track(0, 399)), (refused(Refusal::Fit), 3));
         }
     }
 
@@ -737,30 +751,27 @@ mod tests {
     /// 99 tracks: 4n+3+W and 16+W commands.
     #[test]
     fn ninety_nine_tracks() {
-        let tracks = " audio 301".repeat(99);
+        let tao = format!("tao{}", " data 301".repeat(99));
         let infos: Vec<Reply> = (0..99).map(|i| track(5 + 302 * i, 45_000)).collect();
-        let (job, answer, _) = run(&format!("tao{tracks}"), 0, &infos);
+        let (job, answer, _) = run(&tao, 0, &infos);
         assert_eq!((answer, job.count()), (Answer::Done, 4 * 99 + 3 + 99 * 19));
-        let (job, answer, _) = run(&format!("sao{tracks}"), 0, &[track(0, 30_000)]);
+        let sao = format!("sao{}", " audio 301".repeat(99));
+        let (job, answer, _) = run(&sao, 0, &[track(0, 30_000)]);
         assert_eq!((answer, job.count()), (Answer::Done, 16 + 99 * 19));
     }
 
     /// The lowest applying number is given: 5 to 10 after the third reply.
     #[test]
     fn numbers_in_order() {
-        let damaged = TrackFields {
-            next_writable: 0,
-            free: 0,
-            damaged: true,
-            address_valid: true,
-        };
         let line = "sao keep data 299 audio 300";
         let mut job = take(line).0;
-        let replies = [profile_reply(8), disc_reply(2, false), track_reply(damaged)];
+        let replies = [profile_reply(8), disc_reply(2, false), damaged()];
         assert_eq!(give_all(&mut job, &replies), refused(Refusal::Profile));
-        let third = || track_reply(damaged);
-        assert_eq!(stop(line, 2, third()).0, refused(Refusal::DiscStatus));
-        assert_eq!(stop(line, 0, third()).0, refused(Refusal::TrackInformation));
+        assert_eq!(stop(line, 2, damaged()).0, refused(Refusal::DiscStatus));
+        assert_eq!(
+            stop(line, 0, damaged()).0,
+            refused(Refusal::TrackInformation)
+        );
         assert_eq!(
             stop(line, 0, track(0, 0)).0,
             refused(Refusal::SessionAtOnce)
@@ -774,6 +785,54 @@ mod tests {
             stop("sao data 300", 0, track(0, 0)).0,
             refused(Refusal::Fit)
         );
+    }
+
+    /// Ask 12: 24 comes after 7 and ahead of 9 and 10, which a track of data in
+    /// the audio track's place gives.
+    #[test]
+    fn audio_in_tao_in_order() {
+        let line = "tao keep data 299 audio 404850";
+        let mut job = take(line).0;
+        let replies = [profile_reply(8), disc_reply(2, false), damaged()];
+        assert_eq!(give_all(&mut job, &replies), refused(Refusal::Profile));
+        assert_eq!(stop(line, 2, damaged()).0, refused(Refusal::DiscStatus));
+        assert_eq!(
+            stop(line, 1, damaged()).0,
+            refused(Refusal::TrackInformation)
+        );
+        let full = || track(0, 0);
+        assert_eq!(stop(line, 1, full()), (refused(Refusal::AudioInTao), 3));
+        let data = line.replace("audio", "data");
+        assert_eq!(stop(&data, 1, full()).0, refused(Refusal::ShortTrack));
+        let long = data.replace("299", "300");
+        assert_eq!(stop(&long, 1, full()).0, refused(Refusal::Fit));
+    }
+
+    /// Ask 12: 24 waits for the third reply; 46h, 51h and 52h and their repeats
+    /// are all that is given, and a reply after that is 13. SAO of audio is
+    /// recorded as before.
+    #[test]
+    fn audio_in_tao_gets_no_other_command() {
+        for line in [
+            "tao audio 300",
+            "tao protect immed audio 300 data 300",
+            "tao data 300 audio 300 data 300",
+        ] {
+            let (mut job, mut answer) = take(line);
+            let busy = sense_reply(0x70, 2, 4, 8);
+            let opening = opening(0, track(0, 10_000));
+            for (reply, code) in opening.iter().zip(["46 ", "51 ", "52 "]) {
+                for given in [&busy, reply] {
+                    assert!(bytes_of(answer).starts_with(code));
+                    answer = job.give(given);
+                }
+            }
+            assert_eq!(answer, refused(Refusal::AudioInTao));
+            assert_eq!((job.count(), job.ended()), (6, true));
+            assert_eq!(job.give(&opening[2]), refused(Refusal::Ended));
+            assert_eq!(job.count(), 6);
+        }
+        assert_eq!(stop("sao audio 300", 0, track(0, 300)), (Answer::Done, 35));
     }
 
     /// SAO looks at Damage alone; TAO needs NWA_V.
@@ -944,7 +1003,7 @@ mod tests {
         }
     }
 
-    /// After the first 51h: 5, 6 for status 3, 8, 9, 10 for S alone, 16.
+    /// After the first 51h: 5, 6 for status 3, 24, 8, 9, 10 for S alone, 16.
     #[test]
     fn numbers_at_the_first_51h() {
         let stop = |line: &str, profile, disc, erasable| {
@@ -981,6 +1040,15 @@ mod tests {
         let limit = "tao erase data 300 data 300 data 403945";
         assert_eq!(stop(limit, 9, 2, true), 16);
         assert_eq!(stop("sao erase data 300 data 404549", 9, 2, true), 16);
+        let audio = "tao keep erase data 299 audio 404850";
+        assert_eq!(stop(audio, 8, 3, false), 5);
+        assert_eq!(stop(audio, 9, 3, false), 6);
+        for line in [audio, "tao erase audio 300"] {
+            for disc in 0..3 {
+                assert_eq!(stop(line, 9, disc, false), 24);
+                assert_eq!(stop(line, 10, disc, true), 24);
+            }
+        }
     }
 
     /// At the second 51h 4 and 6; only blank passes, in TAO too.
@@ -1005,10 +1073,15 @@ mod tests {
     }
 
     /// Without the flag everything is as before: Erasable doesn't count, and
-    /// 5, 6, 8, 9 wait for the third reply.
+    /// 5, 6, 24, 8, 9 wait for the third reply.
     #[test]
     fn without_the_flag_nothing_is_erased() {
-        for line in ["tao data 300", "sao keep data 299", "tao immed data 404850"] {
+        for line in [
+            "tao data 300",
+            "tao audio 300",
+            "sao keep data 299",
+            "tao immed data 404850",
+        ] {
             for profile in [8, 9, 10] {
                 for disc in 0..4 {
                     let (job, _) = opened(line, profile, disc, true);

@@ -302,6 +302,21 @@ mod tests {
         assert_eq!(answer("order-read -"), "refused 1");
     }
 
+    /// Audio in TAO is still written and read, and has its page; the sheet maker
+    /// refuses it as all of TAO.
+    #[test]
+    fn audio_in_tao() {
+        for order in ["1 8 1 0 300", "1 3 3 1 300 0 4294967295 1 301"] {
+            let written = answer(&format!("order-write 512 {order}"));
+            let read = written.replacen("ok", "order-read", 1);
+            assert_eq!(answer(&read), format!("ok {order}"));
+            assert!(answer(&format!("page 60 0 {order}")).starts_with("ok "));
+            assert_eq!(answer(&format!("sheet 0 {order}")), "refused 3 -");
+        }
+        let page = "ok 00 00 00 00 00 00 00 00 05 32 41 C0 00 00";
+        assert!(answer("page 60 0 1 3 1 0 300").starts_with(page));
+    }
+
     #[test]
     fn replies() {
         let written = answer("reply-write 513 1 70 00");

@@ -49,6 +49,8 @@ pub enum Refusal {
     NoPacks,
     /// 19: more than 255 packs in all.
     PackCount,
+    /// 24: TAO with an audio track.
+    AudioInTao,
 }
 
 impl Refusal {
@@ -74,6 +76,7 @@ impl Refusal {
             Refusal::Title => 17,
             Refusal::NoPacks => 18,
             Refusal::PackCount => 19,
+            Refusal::AudioInTao => 24,
         }
     }
 }

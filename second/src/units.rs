@@ -146,6 +146,12 @@ impl Order {
         )
     }
 
+    /// Number 24: TAO with an audio track (document 02, Ask 12).
+    pub fn check_audio(&self) -> Result<(), Refusal> {
+        let audio = self.tracks.iter().any(|t| t.kind == Kind::Audio);
+        require(self.method == Method::Sao || !audio, Refusal::AudioInTao)
+    }
+
     /// Number 8, its part about keep appendable.
     pub fn check_keep(&self) -> Result<(), Refusal> {
         require(
@@ -206,6 +212,29 @@ mod tests {
             flags: Flags::default(),
             tracks: tracks.collect(),
         }
+    }
+
+    /// Audio at any place in TAO is 24, alone or among data tracks; SAO is
+    /// untouched.
+    #[test]
+    fn audio_in_tao() {
+        for count in [1, 2, 3, MOST_TRACKS] {
+            let mut order = order(Method::Tao, &vec![300; count]);
+            assert_eq!(order.check_audio(), Ok(()));
+            for place in 0..count {
+                order.tracks[place].kind = Kind::Audio;
+                assert_eq!(order.check_audio(), Err(Refusal::AudioInTao));
+                order.tracks[place].kind = Kind::Data;
+            }
+            order
+                .tracks
+                .iter_mut()
+                .for_each(|track| track.kind = Kind::Audio);
+            assert_eq!(order.check_audio(), Err(Refusal::AudioInTao));
+            order.method = Method::Sao;
+            assert_eq!(order.check_audio(), Ok(()));
+        }
+        assert_eq!(Refusal::AudioInTao.number(), 24);
     }
 
     /// With m tracks still to come S is charged 152 (m - 1).

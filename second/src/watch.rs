@@ -91,6 +91,7 @@ fn stop_words(refusal: Refusal) -> String {
         Refusal::NoSheet => "no cue sheet",
         Refusal::Range => "number out of range",
         Refusal::NotErasable => "disc cannot be erased",
+        Refusal::AudioInTao => "track at once with an audio track",
         // A job gives none of these.
         Refusal::Title | Refusal::NoPacks | Refusal::PackCount => "stop names or packs",
     };
@@ -198,6 +199,10 @@ mod tests {
         assert_eq!(
             job("sao keep data 300", "good track nwa 0 free 300"),
             "stopped: 8, session at once of mixed kinds or kept appendable, commands given: 3"
+        );
+        assert_eq!(
+            job("tao data 300 audio 300", "good track nwa 0 free 300"),
+            "stopped: 24, track at once with an audio track, commands given: 3"
         );
         assert_eq!(
             job("tao data 299", "good track nwa 0 free 300"),

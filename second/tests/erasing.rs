@@ -173,11 +173,13 @@ fn discs_that_cannot_be_erased() {
     assert!(panel.ends_with("stopped: 16, disc cannot be erased, commands given: 2\n"));
 }
 
-/// No disc is wiped for an order known to be bad: 5, 8, 9 and S come first. In
-/// TAO S is charged (Ask 6).
+/// No disc is wiped for an order known to be bad: 5, 24 (Ask 12), 8, 9 and S
+/// come first. In TAO S is charged (Ask 6).
 #[test]
 fn bad_orders_wipe_nothing() {
     for (order, ends) in [
+        ("tao erase audio 300", "stop 24 2"),
+        ("tao keep erase data 300 audio 300", "stop 24 2"),
         ("sao keep erase data 300", "stop 8 2"),
         ("sao erase data 300 audio 300", "stop 8 2"),
         ("tao erase data 299", "stop 9 2"),
@@ -186,7 +188,8 @@ fn bad_orders_wipe_nothing() {
         ("tao erase data 449849", "stop 10 2"),
         ("sao erase data 449849", "stop 10 2"),
         ("tao erase data 300 data 404398", "stop 10 2"),
-        ("tao keep erase data 300 audio 404397", "waiting 3"),
+        ("tao keep erase data 300 data 404397", "waiting 3"),
+        ("sao erase audio 300 audio 404549", "waiting 3"),
         ("sao erase data 300 data 404550", "stop 10 2"),
         ("sao erase data 300 data 404549", "waiting 3"),
         ("sao erase data 404849", "waiting 3"),

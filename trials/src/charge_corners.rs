@@ -287,21 +287,23 @@ fn long_tracks(list: &mut List) {
     }
 }
 
-/// The charge is the same for all kinds and lengths.
+/// The charge is the same for all lengths. With audio the room doesn't count: 24
+/// comes ahead of 10.
 fn kinds_and_lengths(list: &mut List) {
-    for (name, tracks, lengths) in [
-        ("audio", "audio 300 audio 300", 600),
-        ("mixed", "audio 300 data 300", 600),
-        ("lengths", "data 317 data 4000", 4_317),
-        ("shrinking", "data 9001 data 300", 9_301),
+    for (name, tracks, lengths, audio) in [
+        ("audio", "audio 300 audio 300", 600, true),
+        ("mixed", "audio 300 data 300", 600, true),
+        ("lengths", "data 317 data 4000", 4_317, false),
+        ("shrinking", "data 9001 data 300", 9_301, false),
     ] {
         let job = |nwa: u64, free: u64| format!("order tao {tracks}\n{TWO}good track nwa {nwa} free {free}\n");
         let name = |what: &str| format!("charge-kinds-{name}-{what}");
+        let [passes, stops] = if audio { ["stop 24 3"; 2] } else { ["waiting 4", "stop 10 3"] };
         let (need, full) = (lengths + 152, LIMIT - lengths - 152);
-        list.job(&name("free"), "waiting 4", "S and the charge equal to Free Blocks pass", &job(0, need));
-        list.job(&name("free-short"), "stop 10 3", "one block fewer free: 10", &job(0, need - 1));
-        list.job(&name("limit"), "waiting 4", "S and the charge up to 404,849 pass", &job(full, AMPLE));
-        list.job(&name("limit-over"), "stop 10 3", "S and the charge up to 404,850: 10", &job(full + 1, AMPLE));
+        list.job(&name("free"), passes, "S and the charge equal to Free Blocks pass, or 24", &job(0, need));
+        list.job(&name("free-short"), stops, "one block fewer free: 10, or 24", &job(0, need - 1));
+        list.job(&name("limit"), passes, "S and the charge up to 404,849 pass, or 24", &job(full, AMPLE));
+        list.job(&name("limit-over"), stops, "S and the charge up to 404,850: 10, or 24", &job(full + 1, AMPLE));
     }
 }
 

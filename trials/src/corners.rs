@@ -127,13 +127,15 @@ fn work_taken_on(list: &mut List) {
         "SAO, all audio",
         &format!("order sao audio 300 audio 450\n{OPEN}61 x good\n"),
     );
+    let kept = format!(
+        "order tao keep protect data 300 data 301\n{OPEN}{TRACK_300}\
+         good track nwa 450 free 299550\n23 x good\n"
+    );
+    list.job("work-tao-kept", "done 49", "TAO may keep the disc appendable", &kept);
     list.job(
-        "work-tao-mixed", "done 49",
-        "TAO may mix kinds and keep the disc appendable",
-        &format!(
-            "order tao keep protect audio 300 data 301\n{OPEN}{TRACK_300}\
-             good track nwa 450 free 299550\n23 x good\n"
-        ),
+        "work-tao-mixed", "stop 24 3",
+        "TAO may not mix kinds, as it has no audio: 24",
+        &kept.replace("data 300", "audio 300"),
     );
 }
 

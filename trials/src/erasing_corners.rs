@@ -110,17 +110,22 @@ fn mix(list: &mut List, shape: &Shape, flags: &str, (immed, erase): (bool, bool)
     );
 }
 
-/// The flag with every mix of the others, on a used disc.
+/// The flag with every mix of the others, on a used disc. Audio in TAO is 24
+/// ahead of A1h.
 fn flag_mixes(list: &mut List) {
     for flags in 8..16 {
         let words = flag_words(flags);
         let immed = flags & 4 != 0;
         let poll = if immed { POLL } else { "" };
         for kind in ["audio", "data"] {
+            let ends = match (kind, immed) {
+                ("audio", _) => "stop 24 2",
+                (_, true) => "done 36",
+                _ => "done 28",
+            };
             list.job(
-                &format!("erase-tao-{flags}-{kind}"),
-                if immed { "done 36" } else { "done 28" },
-                "TAO: A1h comes ahead of the recording, with Immed as 35h and 5Bh",
+                &format!("erase-tao-{flags}-{kind}"), ends,
+                "TAO: A1h comes ahead of the recording, with Immed as 35h and 5Bh; audio is 24 before that",
                 &format!("order tao{words} {kind} 300\n{USED}good\n{poll}good disc blank\n{ROOM}{}", tao_one(poll)),
             );
             let ends = match (flags & 1, immed) {
@@ -160,7 +165,8 @@ struct Opening {
     method: &'static str,
     profile: &'static str,
     disc: &'static str,
-    /// Nothing, `keep` or `mixed`.
+    /// Nothing, `keep`, or the tracks that are audio: `mixed` the first of
+    /// three, `mixed-last` the last, `audio` all of them.
     session: &'static str,
     short: bool,
     long: bool,
@@ -174,7 +180,8 @@ impl Opening {
         let numbers = [
             (5, self.profile == "0008"),
             (6, self.disc == "other erasable"),
-            (8, self.method == "sao" && !self.session.is_empty()),
+            (24, self.method == "tao" && self.kinds().contains(&"audio")),
+            (8, self.method == "sao" && !["", "audio"].contains(&self.session)),
             (9, self.short),
             (10, self.long),
             (16, used && !spared),
@@ -190,12 +197,21 @@ impl Opening {
         format!("erase-first-{}-{profile}-{disc}{session}{lengths}", self.method)
     }
 
+    fn kinds(&self) -> [&'static str; 3] {
+        match self.session {
+            "mixed" => ["audio", "data", "data"],
+            "mixed-last" => ["data", "data", "audio"],
+            "audio" => ["audio"; 3],
+            _ => ["data"; 3],
+        }
+    }
+
     fn text(&self) -> String {
         let keep = if self.session == "keep" { " keep" } else { "" };
-        let kind = if self.session == "mixed" { "audio" } else { "data" };
+        let [one, two, three] = self.kinds();
         let (first, last) = (if self.short { 299 } else { 300 }, if self.long { 404_550 } else { 300 });
         let (method, profile, disc) = (self.method, self.profile, self.disc);
-        format!("order {method}{keep} erase {kind} {first} data 300 data {last}\ngood profile {profile}\ngood disc {disc}\n")
+        format!("order {method}{keep} erase {one} {first} {two} 300 {three} {last}\ngood profile {profile}\ngood disc {disc}\n")
     }
 }
 
@@ -204,7 +220,7 @@ fn openings() -> Vec<Opening> {
     for method in ["tao", "sao"] {
         for profile in ["0008", "0009", "000A"] {
             for disc in ["blank", "appendable erasable", "finalized", "other erasable"] {
-                for session in ["", "keep", "mixed"] {
+                for session in ["", "keep", "mixed", "mixed-last", "audio"] {
                     for (short, long) in [(false, false), (false, true), (true, false), (true, true)] {
                         all.push(Opening { method, profile, disc, session, short, long });
                     }
@@ -215,8 +231,8 @@ fn openings() -> Vec<Opening> {
     all
 }
 
-/// After the first 51h: 5, 6 for status 3, 8, 9, 10 for S alone, 16. Every mix
-/// of these, of which the first is given.
+/// After the first 51h: 5, 6 for status 3, 24, 8, 9, 10 for S alone, 16. Every
+/// mix of these, of which the first is given.
 fn first_numbers(list: &mut List) {
     for opening in openings() {
         let numbers = opening.numbers();

@@ -367,7 +367,7 @@ pub(crate) fn flag_words(flags: u8) -> String {
 }
 
 /// Every mix of flags with both methods: Immed bits and polls with the flag,
-/// everything as before without it.
+/// everything as before without it. Audio in TAO is 24.
 fn flag_mixes(list: &mut List) {
     for flags in 0..8 {
         let words = flag_words(flags);
@@ -375,10 +375,13 @@ fn flag_mixes(list: &mut List) {
         let poll = if immed { POLL } else { "" };
         let shows = if immed { "35h and 5Bh with Immed, each polled" } else { "35h and 5Bh without Immed, nothing is polled" };
         for kind in ["audio", "data"] {
+            let ends = match (kind, immed) {
+                ("audio", _) => "stop 24 3",
+                (_, true) => "done 32",
+                _ => "done 26",
+            };
             list.job(
-                &format!("immed-tao-{flags}-{kind}"),
-                if immed { "done 32" } else { "done 26" },
-                shows,
+                &format!("immed-tao-{flags}-{kind}"), ends, shows,
                 &format!("order tao{words} {kind} 300\n{OPEN}{}", tao_one(poll)),
             );
             let ends = match (flags & 1, immed) {

@@ -81,15 +81,30 @@ fn flags(rng: &mut Rng, method: Method) -> Flags {
     }
 }
 
+/// TAO is mostly of data, so that jobs get deep; a fair share of its orders has
+/// audio, in one track, in some or in all.
 fn kinds(rng: &mut Rng, method: Method, count: usize) -> Vec<Kind> {
-    let both = [Kind::Audio, Kind::Data];
-    let kind = rng.pick(&both);
-    let free_choice = method == Method::Tao || rng.chance(5);
-    let mut kinds = vec![kind; count];
-    if free_choice {
-        kinds.fill_with(|| rng.pick(&both));
+    match method {
+        Method::Tao => {
+            let audio_percent = rng.pick(&[0, 0, 0, 0, 0, 30, 60, 100]);
+            let kind = |audio: bool| if audio { Kind::Audio } else { Kind::Data };
+            let tracks = (0..count).map(|_| kind(rng.chance(audio_percent)));
+            tracks.collect()
+        }
+        Method::Sao => {
+            let both = [Kind::Audio, Kind::Data];
+            let mut kinds = vec![rng.pick(&both); count];
+            if rng.chance(5) {
+                kinds.fill_with(|| rng.pick(&both));
+            }
+            kinds
+        }
     }
-    kinds
+}
+
+fn audio_in_tao(order: &Order) -> bool {
+    let audio = |track: &Track| track.kind == Kind::Audio;
+    order.method == Method::Tao && order.tracks.iter().any(audio)
 }
 
 fn usual_length(rng: &mut Rng) -> u32 {
@@ -822,6 +837,9 @@ fn plan(rng: &mut Rng, order: &Order) -> Vec<Odd> {
 
 fn odd_place(rng: &mut Rng, order: &Order) -> Odd {
     let tracks = order.tracks.len() as u64;
+    if audio_in_tao(order) && rng.chance(50) {
+        return odd_opening(rng);
+    }
     if order.flags.immed && rng.chance(60) {
         return odd_poll(rng, order);
     }
@@ -850,6 +868,17 @@ fn odd_place(rng: &mut Rng, order: &Order) -> Odd {
         code,
         nth: rng.between(1, most) as usize,
     }
+}
+
+/// In the opening, beyond which a job with audio in TAO doesn't come.
+fn odd_opening(rng: &mut Rng) -> Odd {
+    let code = rng.pick(&[
+        GET_CONFIGURATION,
+        READ_DISC_INFORMATION,
+        READ_TRACK_INFORMATION,
+        READ_TRACK_INFORMATION,
+    ]);
+    Odd { code, nth: 1 }
 }
 
 /// At the A1h or one of the replies around it.
@@ -881,8 +910,12 @@ fn odd_poll(rng: &mut Rng, order: &Order) -> Odd {
 #[cfg(test)]
 mod tests {
     use super::*;
+    use second::blocks::read_order;
     use second::job::Step;
     use std::collections::BTreeMap;
+
+    /// So many that some 1,500 have no audio in TAO.
+    const JOBS: usize = 1_800;
 
     /// How the job with this input ends: the refusal's number, 0 for done,
     /// or None where replies run out.
@@ -925,7 +958,7 @@ mod tests {
     #[test]
     fn erasings_occur() {
         let mut rng = Rng::new(8);
-        let made: Vec<(bool, bool)> = (0..1_500).map(|_| erasing(&job(&mut rng).bytes)).collect();
+        let made: Vec<(bool, bool)> = (0..JOBS).map(|_| erasing(&job(&mut rng).bytes)).collect();
         let erased = made.iter().filter(|(erased, _)| *erased).count();
         let done = made.iter().filter(|(_, done)| *done).count();
         assert!(erased > 300 && done > 100, "{erased} {done}");
@@ -963,12 +996,12 @@ mod tests {
         all
     }
 
-    /// Many 52h replies leave exactly the room that is charged, many a block
-    /// less or more.
+    /// Of as many random jobs as the gate runs, many 52h replies leave exactly the
+    /// room that is charged, many a block less or more.
     #[test]
     fn limits_of_the_charge_occur() {
         let mut rng = Rng::new(6);
-        let all: Vec<[i64; 2]> = (0..1_500)
+        let all: Vec<[i64; 2]> = (0..2_500)
             .flat_map(|_| spares(&job(&mut rng).bytes))
             .collect();
         for sort in [0, 1] {
@@ -977,6 +1010,32 @@ mod tests {
                 assert!(found >= least, "{sort} {over}: {found}");
             }
         }
+    }
+
+    /// Many random jobs end in 24, with the flag for erasing and without it; of
+    /// two tracks the first is audio, the last or both.
+    #[test]
+    fn audio_in_tao_occurs() {
+        let mut rng = Rng::new(9);
+        let mut found: BTreeMap<(bool, [u8; 2]), u32> = BTreeMap::new();
+        let mut all = 0;
+        for _ in 0..JOBS {
+            let bytes = job(&mut rng).bytes;
+            if outcome(&bytes).0 != Some(24) {
+                continue;
+            }
+            all += 1;
+            let order = read_order(&bytes[..BLOCK]).unwrap();
+            if let [first, last] = order.tracks[..] {
+                let sort = (order.flags.erase, [first.kind.byte(), last.kind.byte()]);
+                *found.entry(sort).or_default() += 1;
+            }
+        }
+        assert!(all > 120, "{all}");
+        assert!(
+            found.len() == 6 && found.values().all(|&n| n > 1),
+            "{found:?}"
+        );
     }
 
     #[test]
@@ -992,12 +1051,12 @@ mod tests {
         let mut rng = Rng::new(7);
         let mut endings: BTreeMap<Option<u8>, u32> = BTreeMap::new();
         let mut deep = 0;
-        for _ in 0..1_500 {
+        for _ in 0..JOBS {
             let (ending, count) = outcome(&job(&mut rng).bytes);
             *endings.entry(ending).or_default() += 1;
             deep += u32::from(count > 10);
         }
-        for number in [0, 1, 2, 3, 4, 5, 6, 7, 8, 9, 10, 12, 16] {
+        for number in [0, 1, 2, 3, 4, 5, 6, 7, 8, 9, 10, 12, 16, 24] {
             assert!(endings.contains_key(&Some(number)), "{number}: {endings:?}");
         }
         assert!(endings.contains_key(&None));
