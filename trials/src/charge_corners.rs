@@ -7,9 +7,9 @@ use crate::erasing_corners::{ERASED, USED};
 use crate::polling_corners::POLL;
 
 /// The last address at which a lead-out may stand.
-const LIMIT: u64 = 404_849;
+pub(crate) const LIMIT: u64 = 404_849;
 /// Free Blocks that hold every job here.
-const AMPLE: u64 = 4_294_967_295;
+pub(crate) const AMPLE: u64 = 4_294_967_295;
 
 /// All corner jobs of the charge.
 pub(crate) fn charging(list: &mut List) {

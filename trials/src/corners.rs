@@ -1,7 +1,8 @@
 //! A fixed set of named jobs, at least one for each sentence of document 01
-//! that a job can show. Those of document 02, Asks 1, 2 and 6, stand in
-//! `polling_corners`, `erasing_corners` and `charge_corners`.
+//! that a job can show. Those of document 02, Asks 1, 2, 6 and 12, stand in
+//! `polling_corners`, `erasing_corners`, `charge_corners` and `audio_corners`.
 
+use crate::audio_corners::audio;
 use crate::charge_corners::charging;
 use second::blocks::{seal, BLOCK};
 use crate::erasing_corners::erasing;
@@ -51,6 +52,7 @@ pub fn corners() -> Vec<Corner> {
     polling(&mut list);
     erasing(&mut list);
     charging(&mut list);
+    audio(&mut list);
     list.0
 }
 

@@ -11,7 +11,7 @@ const FINALIZED: &str = "good profile 000A\ngood disc finalized erasable\n";
 /// A1h without Immed, and the second 51h.
 pub(crate) const ERASED: &str = "good\ngood disc blank\n";
 /// A 52h reply with ample room.
-const ROOM: &str = "good track nwa 0 free 300000\n";
+pub(crate) const ROOM: &str = "good track nwa 0 free 300000\n";
 
 /// All corner jobs of the erasing.
 pub(crate) fn erasing(list: &mut List) {
@@ -601,8 +601,6 @@ fn every_command(list: &mut List) {
 
 /// The input ends, or holds a bad block, at each place of the opening.
 fn opening_ends(list: &mut List) {
-    let bad = format!("block 02 02{} 04\n", " 00".repeat(509));
-    let check = format!("block 02{}\n", " 00".repeat(511));
     for method in ["tao", "sao"] {
         for (name, order, opening) in [
             ("erased", "erase", format!("{USED}{ERASED}{ROOM}")),
@@ -611,19 +609,26 @@ fn opening_ends(list: &mut List) {
         ] {
             let lines = lines_of(&opening);
             for place in 0..=lines.len() {
-                let text = format!("order {method} {order} data 300\n{}", join(&lines[..place]));
-                let number = place + 1;
-                let mut add = |what: &str, ends: &str, shows: &str, last: &str| {
-                    let name = format!("erase-ends-{method}-{name}-{number}{what}");
-                    list.job(&name, &format!("{ends} {number}"), shows, &format!("{text}{last}"));
-                };
-                add("", "waiting", "the replies run out in the opening", "");
-                add("-part", "stop 1", "part of a block in the opening: 1", "block 02\n");
-                add("-check", "stop 2", "a check that differs in the opening: 2", &check);
-                add("-bad", "stop 3", "a bad block in the opening: 3", &bad);
+                let name = format!("erase-ends-{method}-{name}-{}", place + 1);
+                broken_off(list, &name, &format!("order {method} {order} data 300\n"), &lines[..place]);
             }
         }
     }
+}
+
+/// Behind an order and these replies of the opening the input ends, or holds a
+/// bad block.
+pub(crate) fn broken_off(list: &mut List, name: &str, order: &str, replies: &[String]) {
+    let bad = format!("block 02 02{} 04\n", " 00".repeat(509));
+    let check = format!("block 02{}\n", " 00".repeat(511));
+    let mut add = |what: &str, ends: &str, shows: &str, last: &str| {
+        let ends = format!("{ends} {}", replies.len() + 1);
+        list.job(&format!("{name}{what}"), &ends, shows, &format!("{order}{}{last}", join(replies)));
+    };
+    add("", "waiting", "the replies run out in the opening", "");
+    add("-part", "stop 1", "part of a block in the opening: 1", "block 02\n");
+    add("-check", "stop 2", "a check that differs in the opening: 2", &check);
+    add("-bad", "stop 3", "a bad block in the opening: 3", &bad);
 }
 
 /// Later blocks are not read.

@@ -1,15 +1,18 @@
 //! Jobs and requests for the proved programs and the second one. `drive`,
 //! `random` and `polling_random` make random jobs, `corners`, `polling_corners`,
-//! `erasing_corners` and `charge_corners` the fixed ones; `requests` makes
-//! requests over the byte layouts, which `packed` gives in a binary form, and
-//! `cdtext_random` and `cdtext_corners` those over CD-TEXT. `conversion` looks at
-//! the source and the machine code of the conversion of times.
+//! `erasing_corners`, `charge_corners` and `audio_corners` the fixed ones;
+//! `requests` makes requests over the byte layouts, which `packed` gives in a
+//! binary form, and `cdtext_random` and `cdtext_corners` those over CD-TEXT.
+//! `conversion` looks at the source and the machine code of the conversion of
+//! times.
 
 #![forbid(unsafe_code)]
 
+#[rustfmt::skip] // a table with one job a line
+pub mod audio_corners;
 pub mod cdtext_corners;
 pub mod cdtext_random;
-#[rustfmt::skip] // a table with one job a line
+#[rustfmt::skip] // likewise
 pub mod charge_corners;
 pub mod conversion;
 #[rustfmt::skip] // likewise

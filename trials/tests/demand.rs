@@ -2,16 +2,18 @@
 //! recorded blocks are a beginning of the ordered ones, no address takes two
 //! blocks, done means recorded and closed, every polling ended, and the count
 //! without polls is that of document 01, with 2 more for an erasing. No disc is
-//! erased for an order known to be bad.
+//! erased for an order known to be bad, and audio in TAO gets no command but those
+//! of the opening. Replies to an ended job are 13 and change nothing.
 
 use second::blocks::{read_order, read_reply, Reply, Status, BLOCK};
 use second::commands::{
-    BLANK, CLOSE_TRACK_SESSION, GET_CONFIGURATION, READ_DISC_INFORMATION, REQUEST_SENSE,
-    SYNCHRONIZE_CACHE, TEST_UNIT_READY, WRITE,
+    BLANK, CLOSE_TRACK_SESSION, GET_CONFIGURATION, READ_DISC_INFORMATION, READ_TRACK_INFORMATION,
+    REQUEST_SENSE, SYNCHRONIZE_CACHE, TEST_UNIT_READY, WRITE,
 };
 use second::job::{Answer, Command, Job};
+use second::refusal::Refusal;
 use second::rng::Rng;
-use second::units::{Method, Order};
+use second::units::{Kind, Method, Order};
 use trials::{corners, random};
 
 /// What the good replies have brought about so far.
@@ -140,6 +142,17 @@ impl Watch {
     }
 }
 
+/// Document 02, Ask 12: with an audio track in TAO 46h, 51h and 52h alone are
+/// given, with the flag for erasing 46h and 51h.
+fn may_give(order: &Order, code: u8) -> bool {
+    let audio = order.tracks.iter().any(|track| track.kind == Kind::Audio);
+    match code {
+        _ if order.method == Method::Sao || !audio => true,
+        READ_TRACK_INFORMATION => !order.flags.erase,
+        _ => [GET_CONFIGURATION, READ_DISC_INFORMATION].contains(&code),
+    }
+}
+
 fn is_poll(command: &Command) -> bool {
     [TEST_UNIT_READY, REQUEST_SENSE].contains(&command.bytes[0])
 }
@@ -185,12 +198,15 @@ fn follow(bytes: &[u8]) -> bool {
     let (mut given, mut polls, mut busy) = (1, 0, 0);
     for reply in blocks.map_while(|block| read_reply(block).ok()) {
         let Answer::Command(command) = answer else {
-            break;
+            assert_eq!(job.give(&reply), Answer::Refused(Refusal::Ended));
+            assert_eq!(job.count(), given);
+            continue;
         };
         assert!(!watch.recorded_and_closed(&order));
         watch.reply(&order, &command, &reply);
         answer = job.give(&reply);
         if let Answer::Command(next) = answer {
+            assert!(may_give(&order, next.bytes[0]), "audio in TAO");
             given += 1;
             polls += u64::from(is_poll(&next));
             let again = reply.status == Status::Failed && command.bytes[0] != TEST_UNIT_READY;
