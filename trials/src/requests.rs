@@ -443,6 +443,7 @@ pub fn corners() -> Vec<String> {
     order_corners(&mut list);
     reply_corners(&mut list);
     page_corners(&mut list);
+    audio_corners(&mut list);
     sheet_corners(&mut list);
     sheet_read_corners(&mut list);
     command_corners(&mut list);
@@ -647,6 +648,50 @@ fn page_corners(list: &mut Vec<String>) {
         }
     }
     list.push("page 60 0 2 2 2 0 300 1 300".to_string());
+}
+
+/// Audio in TAO, which a job refuses as 24 (document 02, Ask 12): its order blocks
+/// are read and written and its pages made as before, and it has no sheet.
+fn audio_corners(list: &mut Vec<String>) {
+    for order in tao_with_audio() {
+        let words = order_words(&order);
+        for lent in [0, 511, 512, 513] {
+            list.push(format!("order-write {lent} {words}"));
+        }
+        let block = order_block(&order).unwrap_or([0; BLOCK]);
+        list.push(format!("order-read {}", hex::plain(&block)));
+        for lent in [0, 59, 60, 61] {
+            list.push(format!("page {lent} 0 {words}"));
+            list.push(format!("page {lent} 1 {words}"));
+        }
+        list.push(format!("sheet 816 {words}"));
+    }
+}
+
+/// TAO orders with audio: all their tracks, or one at each of these places.
+fn tao_with_audio() -> Vec<Order> {
+    let mut orders = Vec::new();
+    for flags in [0, 1, 2, 4, 8, 15] {
+        for (count, places) in [
+            (1, &[][..]),
+            (2, &[0, 1]),
+            (3, &[0, 1, 2]),
+            (99, &[0, 49, 98]),
+        ] {
+            let data = simple_order(Method::Tao, flags, count, 300);
+            let mut audio = data.clone();
+            for track in &mut audio.tracks {
+                track.kind = Kind::Audio;
+            }
+            orders.push(audio);
+            for &place in places {
+                let mut one = data.clone();
+                one.tracks[place].kind = Kind::Audio;
+                orders.push(one);
+            }
+        }
+    }
+    orders
 }
 
 fn sheet_corners(list: &mut Vec<String>) {
@@ -1011,6 +1056,26 @@ mod tests {
             let back = if name == "time" { "address" } else { "time" };
             let back = answered.replacen("ok", back, 1);
             assert_eq!(answer(&back), format!("ok {asked}"), "{request}");
+        }
+    }
+
+    /// What is written of audio in TAO reads back, and it has pages.
+    #[test]
+    fn audio_in_tao_is_taken() {
+        let list: BTreeSet<String> = corners().into_iter().collect();
+        for order in tao_with_audio() {
+            let words = order_words(&order);
+            let asked = |request: String| {
+                assert!(list.contains(&request), "{request}");
+                answer(&request)
+            };
+            let written = asked(format!("order-write 512 {words}"));
+            let read = asked(written.replacen("ok", "order-read", 1));
+            assert_eq!(read, format!("ok {words}"));
+            for kind in KINDS {
+                let page = asked(format!("page 60 {} {words}", kind.byte()));
+                assert!(page.starts_with("ok "), "{words}");
+            }
         }
     }
 
