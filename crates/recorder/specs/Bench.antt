@@ -458,13 +458,12 @@ pub record AudioSheets : Type 0 where
       ≡ replicate 5 24
   -- data tracks pass, and so do audio tracks in a session at once, with flag bit 3 too
   pub passing :
-      opened (order Tao (300 ∷ 300 ∷ [])) (plain 0 0 752)
-      ∷ opened (orderOf Sao false (tracks Audio (300 ∷ 300 ∷ []))) (plain 0 0 600)
-      ∷ refusedIn (flagged (order Sao (300 ∷ []))) (twice (rw 0x12))
+      opened (order Tao (300 ∷ 300 ∷ [])) (plain 0 0 9000)
+      ∷ opened (order Sao (300 ∷ 300 ∷ [])) (plain 0 0 9000)
+      ∷ refusedIn (flagged (order Sao (300 ∷ []))) (twice (rw 0x10))
       ∷ []
       ≡ replicate 3 0
-  -- 4, 5, 6 and 7 come before it, 9 and 10 after it: not with a reply that is too short, another profile, a finalized disc, and Damage, but with
-  -- a short track and no room
+  -- "4, 5, 6, 7, 24, 8, 9, 10": first with all these faults (8 is of SAO), then without a short reply, another profile, a finalized disc, Damage
   pub in-turn :
       after 2 (among 0 299 1) (saying 2 0x20 0x0B 0 0) (cut 27 (saying 2 0x20 0x0B 0 0))
       ∷ opened (among 0 299 1) (saying 2 0x20 0x0B 0 0)
