@@ -2,7 +2,6 @@
 use mathlib.Core.Path.{_≡_, refl, sym, ap, subst, _∙_}
 use mathlib.Core.Bool.{Bool, true, false, not, _&&_, _||_}
 use mathlib.Core.List.{List, [], _∷_, _++_}
-use Prim.Native.Nat.{ℕ}
 use Rattle.basics.specs.Bytes.{if}
 use Rattle.mmc.specs.Order.{tracksIn, sameKind, allKind}
 use Rattle.mmc.specs.declared.order.Order.{Order}
@@ -20,10 +19,10 @@ use Rattle.recorder.specs.declared.exchanges.Seen.{Seen}
 use Rattle.recorder.specs.Replies.{reading}
 use Rattle.recorder.specs.Script.{isErasing, beforeTracks, eachTrack, script}
 use Rattle.recorder.specs.Exchanges.{Exchange, erased, seen}
-use Rattle.recorder.specs.Rules.{audioBy, audioInTao, used, Judgement, tested, erasingTests, blankTests, discTests, erases, erasingIf, openingTests, laterTests, trackTests, judge, judged, move, left}
+use Rattle.recorder.specs.Rules.{audioBy, audioInTao, used, Judgement, tested, erasingTests, blankTests, discTests, erases, erasingIf, openingTests, laterTests, judge, judged, move, left}
 use Rattle.recorder.specs.History.{Each, HasAudio, isOpening, OnlyOpens}
 use Rattle.recorder.proofs.Lists.{false-true, clash, never, tested-by}
-use Rattle.recorder.proofs.Turns.{made, Played, nothing, then, Reads, busy, not-ready, failed, malformed, a46, a51, a52, a03, profile, status, information, indication, ready, unread, reads, erased-seen}
+use Rattle.recorder.proofs.Turns.{made, Played, nothing, then, Reads, busy, failed, malformed, a46, a51, a52, profile, status, information, unread, reads, erased-seen}
 use Rattle.recorder.proofs.Scripts.{by}
 
 -- ---- 24 applies just where an audio track stands in a track at once
@@ -65,10 +64,14 @@ audio-clear o n = go (o .method) n
 
 -- ---- what is left of the plan of such a job
 
+-- the first track's 52h
+abbrev first52 : Op
+first52 = ReadTrackInformation (record { 0 = 1 })
+
 data Opens (erase : Bool) : List Op → Type 0 where
-  at-46 : {l : List Op} → Opens erase (GetConfiguration ∷ ReadDiscInformation ∷ ReadTrackInformation (record { 0 = 1 }) ∷ l)
-  at-51 : {l : List Op} → Opens erase (ReadDiscInformation ∷ ReadTrackInformation (record { 0 = 1 }) ∷ l)
-  at-52 : {l : List Op} → erase ≡ false → Opens erase (ReadTrackInformation (record { 0 = 1 }) ∷ l)
+  at-46 : {l : List Op} → Opens erase (GetConfiguration ∷ ReadDiscInformation ∷ first52 ∷ l)
+  at-51 : {l : List Op} → Opens erase (ReadDiscInformation ∷ first52 ∷ l)
+  at-52 : {l : List Op} → erase ≡ false → Opens erase (first52 ∷ l)
 
 script-opens : (o : Order) → o .method ≡ Tao → HasAudio (tracksIn o) → Opens (o .erase) (script o)
 script-opens o e a = go (o .method) e (tracksIn o) a
@@ -85,16 +88,16 @@ script-opens o e a = go (o .method) e (tracksIn o) a
 -- ---- a reply leaves it there: 24 applies at the 52h, and with flag bit 3 at the 51h
 
 module _ (o : Order) (a : audioInTao o ≡ true) (v : Seen) where
-  at-disc : (d : DiscInformation) (l : List Op) → v .erased ≡ false → (b : Bool) → Opens b (move (tested (discTests b o v d) (erasingIf (erases b (v .erased) (d .status)))) (ReadDiscInformation ∷ ReadTrackInformation (record { 0 = 1 }) ∷ l))
+  at-disc : (d : DiscInformation) (l : List Op) → v .erased ≡ false → (b : Bool) → Opens b (move (tested (discTests b o v d) (erasingIf (erases b (v .erased) (d .status)))) (ReadDiscInformation ∷ first52 ∷ l))
   at-disc d l n false = at-52 refl
   at-disc d l n true =
-      subst (λ (b : Bool). Opens true (move (tested (if b (blankTests d) (erasingTests o (v .profile) d)) (erasingIf (not b && used (d .status)))) (ReadDiscInformation ∷ ReadTrackInformation (record { 0 = 1 }) ∷ l))) (sym n)
-      (tested-by (λ (j : Judgement). Opens true (move j (ReadDiscInformation ∷ ReadTrackInformation (record { 0 = 1 }) ∷ l))) (erasingTests o (v .profile) d) _ (λ c. absurd (false-true (sym (c .1 .1 .0) ∙ a))) (λ k. at-51))
+      subst (λ (b : Bool). Opens true (move (tested (if b (blankTests d) (erasingTests o (v .profile) d)) (erasingIf (not b && used (d .status)))) (ReadDiscInformation ∷ first52 ∷ l))) (sym n)
+      (tested-by (λ (j : Judgement). Opens true (move j (ReadDiscInformation ∷ first52 ∷ l))) (erasingTests o (v .profile) d) _ (λ c. absurd (false-true (sym (c .1 .1 .0) ∙ a))) (λ k. at-51))
 
-  at-track : (i : TrackInformation) (l : List Op) (b : Bool) → b ≡ false → Opens b (move (tested (if (not b) (openingTests o 1 v i) (laterTests o 1 v i)) []) (ReadTrackInformation (record { 0 = 1 }) ∷ l))
+  at-track : (i : TrackInformation) (l : List Op) (b : Bool) → b ≡ false → Opens b (move (tested (if (not b) (openingTests o 1 v i) (laterTests o 1 v i)) []) (first52 ∷ l))
   at-track i l true e = absurd (false-true (sym e))
   at-track i l false e =
-      tested-by (λ (j : Judgement). Opens false (move j (ReadTrackInformation (record { 0 = 1 }) ∷ l))) (openingTests o 1 v i) [] (λ c. absurd (false-true (sym (c .1 .1 .1 .0) ∙ a))) (λ k. at-52 refl)
+      tested-by (λ (j : Judgement). Opens false (move j (first52 ∷ l))) (openingTests o 1 v i) [] (λ c. absurd (false-true (sym (c .1 .1 .1 .0) ∙ a))) (λ k. at-52 refl)
 
   opens-by : (x : Op) (l : List Op) (g : Bool) (r : Reading) → v .erased ≡ false → Reads x g r → Opens (o .erase) (x ∷ l) → Opens (o .erase) (move (judge o v x r) (x ∷ l))
   opens-by x l g r n (busy i) at-46 = at-46
