@@ -256,7 +256,7 @@ fn judge_used(o: Order, profile: u16, d: DiscInformation) -> Verdict
     erasing_if(is_used(d.status))
 }
 
-// Judges READ DISC INFORMATION: with the flag 5 to 16 before an erasing, and after it that the disc is blank.
+// Judges READ DISC INFORMATION: with the flag 5 to 10, 24 and 16 before an erasing, and after it that the disc is blank.
 fn judge_disc(o: Order, v: Seen, d: DiscInformation) -> Verdict
     ensures { λ r. ⌜ judgementIn r ≡ judgeDisc o v d ⌝ }
 {
