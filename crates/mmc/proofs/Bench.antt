@@ -25,7 +25,7 @@ layout-sheets =
     }
 
 pub layout-cases : LayoutCases
-unfolding bytes32 be32 sumOf allZero checkSum sealed blockFault blockRead allNone validOrder methodOf keepOf protectOf immedOf eraseOf row rows orderBody orderBytes trackOf tracksOf kindsOk fieldsOf headOk orderOk readOrder closeTrackSession allKind allLong blocksOf mixedOrKept overlong page sheetFault pageFault inRange hasTime framesTo addressAt isTime timeFrames addressAtTime timeOf addressOf writeRange writeBytes writeCommand
+unfolding bytes32 be32 sumOf allZero checkSum sealed blockFault blockRead allNone validOrder methodOf keepOf protectOf immedOf eraseOf row rows orderBody orderBytes orderBlock trackOf tracksOf kindsOk fieldsOf headOk orderOk readOrder closeTrackSession allKind allLong blocksOf mixedOrKept overlong page sheetFault pageFault inRange hasTime framesTo addressAt isTime timeFrames addressAtTime timeOf addressOf writeRange writeBytes writeCommand
 layout-cases =
     record {
       mixed-or-kept = refl;
@@ -38,6 +38,9 @@ layout-cases =
       erase = refl;
       flags = refl;
       no-flag = refl;
+      recipes = refl;
+      recipes-written = refl;
+      recipes-made = refl;
       synchronize = refl;
       close = refl;
       ready = refl;

@@ -22,6 +22,8 @@ use Rattle.mmc.specs.declared.order.Kind.{Kind}
 use Rattle.mmc.specs.declared.order.Kind.the-variants.{Audio, Data}
 use Rattle.mmc.specs.declared.order.Method.{Method}
 use Rattle.mmc.specs.declared.order.Method.the-variants.{Tao, Sao}
+use Rattle.mmc.specs.declared.order.Recipe.{Recipe}
+use Rattle.mmc.specs.declared.order.Recipe.the-variants.{Old, New}
 
 -- ---- the orders and values that the sheets speak of
 
@@ -30,7 +32,7 @@ track k n = record { kind = k; length = record { 0 = n } }
 
 -- an order of the tracks given, of which it says that it has n
 abbrev pub order : Method → Bool → Bool → Bool → Bool → ℕ → List Track → Order
-order m keep protect immed erase n tracks = record { method = m; keep = keep; protect = protect; immed = immed; erase = erase; count = n; tracks = tracks }
+order m keep protect immed erase n tracks = record { method = m; keep = keep; protect = protect; immed = immed; erase = erase; recipe = Old; count = n; tracks = tracks }
 
 -- SAO, no flags, one data track
 abbrev pub oneData : ℕ → Order
@@ -46,6 +48,13 @@ flagsBlock n = sealed (0x01 ∷ 0x01 ∷ n ∷ 0x01 ∷ 0x01 ∷ 0x00 ∷ 0x00 �
 
 abbrev pub flagsOrder : Bool → Bool → Bool → Bool → Order
 flagsOrder keep protect immed erase = order Tao keep protect immed erase 1 (track Data 300 ∷ replicate 98 noTrack)
+
+-- the block of a method's number, one data track of 300, with a byte of the recipe and one behind it, and the order in it
+abbrev pub recipeBlock : ℕ → ℕ → ℕ → List ℕ
+recipeBlock m n z = sealed (0x01 ∷ m ∷ 0x00 ∷ 0x01 ∷ 0x01 ∷ 0x00 ∷ 0x00 ∷ 0x01 ∷ 0x2C ∷ replicate 490 0 ++ n ∷ z ∷ replicate 9 0)
+
+abbrev pub recipeOrder : Method → Recipe → Order
+recipeOrder m q = record { method = m; keep = false; protect = false; immed = false; erase = false; recipe = q; count = 1; tracks = track Data 300 ∷ replicate 98 noTrack }
 
 -- two tracks, the second of another kind or of the first's, kept appendable or not, protected where not kept
 abbrev pub mixed : Method → Bool → Order
@@ -145,6 +154,13 @@ pub record LayoutCases : Type 0 where
   pub erase : readOrder (flagsBlock 8) ≡ pass (flagsOrder false false false true)
   pub flags : readOrder (flagsBlock 15) ≡ pass (flagsOrder true true true true)
   pub no-flag : readOrder (flagsBlock 16) ≡ refuse 3
+  -- document 02: "Byte 499 of the order block names the recipe: 0 the old, 1 the new"; "3 for other bytes, or for recipe 1 with SAO", "at reading and
+  -- at writing", and as for any bad field at the makers of the sheet and the page; behind it all is 0
+  pub recipes :
+      map readOrder (recipeBlock 1 0 0 ∷ recipeBlock 1 1 0 ∷ recipeBlock 1 2 0 ∷ recipeBlock 2 0 0 ∷ recipeBlock 2 1 0 ∷ recipeBlock 1 1 1 ∷ [])
+      ≡ pass (recipeOrder Tao Old) ∷ pass (recipeOrder Tao New) ∷ refuse 3 ∷ pass (recipeOrder Sao Old) ∷ refuse 3 ∷ refuse 3 ∷ []
+  pub recipes-written : map orderBlock (recipeOrder Tao New ∷ recipeOrder Sao New ∷ []) ≡ pass (recipeBlock 1 1 0) ∷ refuse 3 ∷ []
+  pub recipes-made : map pageFault (recipeOrder Tao New ∷ recipeOrder Sao New ∷ []) ++ map sheetFault (recipeOrder Sao Old ∷ recipeOrder Sao New ∷ []) ≡ (0 ∷ 3 ∷ []) ++ (0 ∷ 3 ∷ [])
   -- 35h and 5Bh with Immed; 00h and 03h; A1h without and with Immed
   pub synchronize : synchronizeCache true ≡ 0x35 ∷ 0x02 ∷ 0x00 ∷ 0x00 ∷ 0x00 ∷ 0x00 ∷ 0x00 ∷ 0x00 ∷ 0x00 ∷ 0x00 ∷ []
   pub close : closeTrackSession true 1 (record { 0 = 2 }) ≡ pass (0x5B ∷ 0x01 ∷ 0x01 ∷ 0x00 ∷ 0x00 ∷ 0x02 ∷ 0x00 ∷ 0x00 ∷ 0x00 ∷ 0x00 ∷ [])

@@ -11,6 +11,8 @@ use Rattle.mmc.specs.declared.order.Kind.{Kind}
 use Rattle.mmc.specs.declared.order.Kind.the-variants.{Audio, Data}
 use Rattle.mmc.specs.declared.order.Method.{Method}
 use Rattle.mmc.specs.declared.order.Method.the-variants.{Tao, Sao}
+use Rattle.mmc.specs.declared.order.Recipe.{Recipe}
+use Rattle.mmc.specs.declared.order.Recipe.the-variants.{Old, New}
 
 -- "the count n of tracks, 1 to 99"
 abbrev pub mostTracks : ℕ
@@ -28,6 +30,11 @@ abbrev pub isSao : Method → Bool
 isSao Tao = false
 isSao Sao = true
 
+-- the recipe: "0 the old, 1 the new without function 1"
+abbrev pub isNew : Recipe → Bool
+isNew Old = false
+isNew New = true
+
 -- a row that holds no track is all zeros
 abbrev pub noTrack : Track
 noTrack = record { kind = Audio; length = record { 0 = 0 } }
@@ -41,11 +48,15 @@ allNone (t ∷ ts) = isNone t && allNone ts
 
 -- what stands where there is no order
 unfoldable pub noOrder : Order
-noOrder = record { method = Tao; keep = false; protect = false; immed = false; erase = false; count = 0; tracks = replicate mostTracks noTrack }
+noOrder = record { method = Tao; keep = false; protect = false; immed = false; erase = false; recipe = Old; count = 0; tracks = replicate mostTracks noTrack }
 
--- 3: an order has 1 to 99 tracks, and no track past them
+-- 3: "recipe 1 with SAO"
+abbrev pub newSao : Order → Bool
+newSao o = isSao (o .method) && isNew (o .recipe)
+
+-- 3: an order has 1 to 99 tracks, no track past them, and a recipe that goes with its method
 unfoldable pub validOrder : Order → Bool
-validOrder o = leb 1 (o .count) && (leb (o .count) mostTracks && allNone (drop (o .count) (o .tracks)))
+validOrder o = leb 1 (o .count) && (leb (o .count) mostTracks && (allNone (drop (o .count) (o .tracks)) && not (newSao o)))
 
 -- the ordered tracks
 abbrev pub tracksIn : Order → List Track

@@ -15,6 +15,8 @@ use Rattle.mmc.specs.declared.order.Kind.{Kind}
 use Rattle.mmc.specs.declared.order.Kind.the-variants.{Audio, Data}
 use Rattle.mmc.specs.declared.order.Method.{Method}
 use Rattle.mmc.specs.declared.order.Method.the-variants.{Tao, Sao}
+use Rattle.mmc.specs.declared.order.Recipe.{Recipe}
+use Rattle.mmc.specs.declared.order.Recipe.the-variants.{Old, New}
 use Rattle.mmc.specs.declared.order_block.OrderRead.{OrderRead}
 use Rattle.mmc.specs.declared.refusals.Made.{Made}
 
@@ -42,12 +44,23 @@ immedOf flags = eqb (flags / 4 % 2) 1
 unfoldable pub eraseOf : ℕ → Bool
 eraseOf flags = eqb (flags / 8 % 2) 1
 
--- the last method, and the flags with all four bits
+-- "Byte 499 of the order block names the recipe: 0 the old, 1 the new"
+abbrev pub recipeByte : Recipe → ℕ
+recipeByte Old = 0
+recipeByte New = 1
+
+abbrev pub recipeOf : ℕ → Recipe
+recipeOf n = if (eqb n 0) Old New
+
+-- the last method, the flags with all four bits, and the last recipe
 abbrev pub lastMethod : ℕ
 lastMethod = 2
 
 abbrev pub lastFlags : ℕ
 lastFlags = 15
+
+abbrev pub lastRecipe : ℕ
+lastRecipe = 1
 
 -- "rows of 5 bytes: kind (0 audio, 1 data) and length in blocks (4 bytes, any value)"
 abbrev pub kindByte : Kind → ℕ
@@ -65,9 +78,9 @@ unfoldable pub rows : List Track → List ℕ
 rows [] = []
 rows (t ∷ ts) = row t ++ rows ts
 
--- bytes 0 to 509: "byte 0 is 1", method, flags, count, rows from byte 4 on, zeros
+-- bytes 0 to 509: "byte 0 is 1", method, flags, count, rows from byte 4 on, recipe, zeros
 unfoldable pub orderBody : Order → List ℕ
-orderBody o = 1 ∷ methodByte (o .method) ∷ flagsByte (o .keep) (o .protect) (o .immed) (o .erase) ∷ o .count ∷ rows (o .tracks) ++ replicate 11 0
+orderBody o = 1 ∷ methodByte (o .method) ∷ flagsByte (o .keep) (o .protect) (o .immed) (o .erase) ∷ o .count ∷ rows (o .tracks) ++ recipeByte (o .recipe) ∷ replicate 10 0
 
 unfoldable pub orderBytes : Order → List ℕ
 orderBytes o = sealed (orderBody o)
@@ -98,6 +111,7 @@ fieldsOf b =
       protect = protectOf (getD b 2 0);
       immed = immedOf (getD b 2 0);
       erase = eraseOf (getD b 2 0);
+      recipe = recipeOf (getD b 499 0);
       count = getD b 3 0;
       tracks = tracksOf mostTracks (drop 4 b);
     }
@@ -106,9 +120,12 @@ fieldsOf b =
 unfoldable pub headOk : List ℕ → Bool
 headOk b = (eqb (getD b 0 0) 1 && leb 1 (getD b 1 0)) && (leb (getD b 1 0) lastMethod && leb (getD b 2 0) lastFlags)
 
--- every field has a listed value, and "all else up to byte 509 is 0"
+-- so has the recipe, and "all else up to byte 509 is 0"
+abbrev pub restOk : List ℕ → Bool
+restOk b = leb (getD b 499 0) lastRecipe && allZero (take 10 (drop 500 b))
+
 unfoldable pub orderOk : List ℕ → Bool
-orderOk b = headOk b && (kindsOk mostTracks (drop 4 b) && (validOrder (fieldsOf b) && allZero (take 11 (drop 499 b))))
+orderOk b = headOk b && (kindsOk mostTracks (drop 4 b) && (validOrder (fieldsOf b) && restOk b))
 
 -- the order in a block
 unfoldable pub readOrder : List ℕ → Outcome Order

@@ -20,6 +20,7 @@ use Rattle.mmc.specs.declared.order.Track.{Track}
 use Rattle.mmc.specs.declared.order.Kind.{Kind}
 use Rattle.mmc.specs.declared.order.Kind.the-variants.{Audio, Data}
 use Rattle.mmc.specs.declared.order.Method.the-variants.{Sao}
+use Rattle.mmc.specs.declared.order.Recipe.the-variants.{Old}
 use Rattle.mmc.specs.declared.sheet.Sheet.{Sheet}
 use Rattle.mmc.specs.declared.sheet.SheetRead.{SheetRead}
 use Rattle.mmc.specs.declared.refusals.Made.{Made}
@@ -159,6 +160,7 @@ orderFor s =
       protect = false;
       immed = false;
       erase = false;
+      recipe = Old;
       count = s .count;
       tracks = map (trackFor (s .kind)) (take (s .count) (s .lengths)) ++ replicate (mostTracks - s .count) noTrack;
     }

@@ -2,7 +2,7 @@
 ghost use mathlib.Core.Path.{_≡_};
 ghost use Prim.Native.Nat.{_≤_, _<_, _^_, min};
 ghost use lib.ListN.{length, drop};
-ghost use Rattle.mmc.specs.Order.{mostTracks, noTrack, isNone, allNone, noOrder, validOrder, tracksIn, sameKind, isSao, orderKind, allKind, allLong, blocksOf, keepsSao, mixedOrKept, overlong};
+ghost use Rattle.mmc.specs.Order.{mostTracks, noTrack, isNone, allNone, noOrder, newSao, validOrder, tracksIn, sameKind, isSao, orderKind, allKind, allLong, blocksOf, keepsSao, mixedOrKept, overlong};
 use crate::times::LAST_ADDRESS;
 use crate::units::BlockCount;
 use crate::units::BlockSum;
@@ -11,6 +11,12 @@ use crate::units::BlockSum;
 pub enum Method {
     Tao,
     Sao,
+}
+
+// How a track at once is closed: by CLOSE TRACK SESSION function 1 after SYNCHRONIZE CACHE, or by SYNCHRONIZE CACHE alone.
+pub enum Recipe {
+    Old,
+    New,
 }
 
 pub enum Kind {
@@ -30,6 +36,7 @@ pub struct Order {
     pub protect: bool,
     pub immed: bool,
     pub erase: bool,
+    pub recipe: Recipe,
     pub count: u8,
     pub tracks: [Track; ROWS],
 }
@@ -68,6 +75,7 @@ pub fn no_order() -> Order
         protect: false,
         immed: false,
         erase: false,
+        recipe: Recipe::Old,
         count: 0,
         tracks: tracks,
     }
@@ -100,6 +108,21 @@ fn rest_none(o: Order) -> bool
     true
 }
 
+// Whether a session at once is ordered by the new recipe.
+fn new_sao(o: Order) -> bool
+    ensures { λ r. ⌜ r ≡ newSao o ⌝ }
+{
+    let m = o.method;
+    let q = o.recipe;
+    match m {
+        Method::Tao => false,
+        Method::Sao => match q {
+            Recipe::Old => false,
+            Recipe::New => true,
+        },
+    }
+}
+
 // Whether an order block can hold the order: 3 where not.
 pub fn is_valid(o: Order) -> bool
     ensures { λ r. ⌜ r ≡ validOrder o ⌝ }
@@ -111,7 +134,10 @@ pub fn is_valid(o: Order) -> bool
     if MOST_TRACKS < count {
         return false;
     }
-    rest_none(o)
+    if !rest_none(o) {
+        return false;
+    }
+    !new_sao(o)
 }
 
 // Whether the method is session at once.

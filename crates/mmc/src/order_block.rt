@@ -7,7 +7,7 @@ ghost use Rattle.mmc.specs.Block.{blockFault};
 ghost use Rattle.basics.specs.Bytes.{putAt};
 ghost use Rattle.mmc.specs.Bench.{LayoutSheets, LayoutCases};
 ghost use Rattle.mmc.specs.Order.{mostTracks};
-ghost use Rattle.mmc.specs.OrderBlock.{methodOf, methodByte, kindOf, kindByte, flagsByte, headOk, kindsOk, trackOf, tracksOf, fieldsOf, orderOk, row, rows, orderBody, ReadsOrder, WritesOrder};
+ghost use Rattle.mmc.specs.OrderBlock.{methodOf, methodByte, kindOf, kindByte, flagsByte, recipeOf, recipeByte, headOk, restOk, kindsOk, trackOf, tracksOf, fieldsOf, orderOk, row, rows, orderBody, ReadsOrder, WritesOrder};
 use crate::block::check_block;
 use crate::block::put_check;
 use crate::bytes::all_zero;
@@ -19,6 +19,7 @@ use crate::order::Kind;
 use crate::order::Method;
 use crate::order::Order;
 use crate::order::ROWS;
+use crate::order::Recipe;
 use crate::order::Track;
 use crate::order::is_valid;
 use crate::order::no_order;
@@ -68,6 +69,21 @@ fn flags_byte(keep: bool, protect: bool, immed: bool, erase: bool) -> u8
     ensures { λ r. ⌜ r ≡ flagsByte keep protect immed erase ⌝ }
 {
     flag(keep, 1) + flag(protect, 2) + flag(immed, 4) + flag(erase, 8)
+}
+
+fn recipe_of(n: u8) -> Recipe
+    ensures { λ r. ⌜ r ≡ recipeOf n ⌝ }
+{
+    if n == 0 { Recipe::Old } else { Recipe::New }
+}
+
+fn recipe_byte(q: Recipe) -> u8
+    ensures { λ r. ⌜ r ≡ recipeByte q ⌝ }
+{
+    match q {
+        Recipe::Old => 0,
+        Recipe::New => 1,
+    }
 }
 
 // The track whose row stands at the index at.
@@ -120,6 +136,7 @@ fn fields_of(b: &[u8]) -> Order
     let method = method_of(b[1]);
     let flags = b[2];
     let count = b[3];
+    let recipe = recipe_of(b[499]);
     let tracks = tracks_of(b);
     Order {
         method: method,
@@ -127,6 +144,7 @@ fn fields_of(b: &[u8]) -> Order
         protect: flags / 2 % 2 == 1,
         immed: flags / 4 % 2 == 1,
         erase: flags / 8 % 2 == 1,
+        recipe: recipe,
         count: count,
         tracks: tracks,
     }
@@ -154,6 +172,17 @@ fn head_ok(b: &[u8]) -> bool
     true
 }
 
+// Whether the recipe's byte holds a listed value, and all behind it is 0.
+fn rest_ok(b: &[u8]) -> bool
+    requires { ⌜ length (now b) ≡ 512 ⌝ }
+    ensures { λ r. ⌜ r ≡ restOk (now (b .entry)) ⌝ }
+{
+    if 1 < b[499] {
+        return false;
+    }
+    all_zero(&b[500..510])
+}
+
 // Whether every field holds a listed value, and all else is 0.
 fn order_ok(b: &[u8]) -> bool
     requires { ⌜ length (now b) ≡ 512 ⌝ }
@@ -168,7 +197,7 @@ fn order_ok(b: &[u8]) -> bool
     if !is_valid(fields_of(b)) {
         return false;
     }
-    all_zero(&b[499..510])
+    rest_ok(b)
 }
 
 // An order block whose length and check are right: 3, or the order.
@@ -241,7 +270,8 @@ fn put_body(o: Order, out: &mut [u8])
     let head = [1u8, method, flags, o.count];
     put(out, 0, &head);
     put_rows(o, out);
-    let rest = [0u8; 11];
+    let q = o.recipe;
+    let rest = [recipe_byte(q), 0, 0, 0, 0, 0, 0, 0, 0, 0, 0];
     put(out, 499, &rest);
 }
 

@@ -16,6 +16,7 @@ use crate::order::Kind;
 use crate::order::Method;
 use crate::order::Order;
 use crate::order::ROWS;
+use crate::order::Recipe;
 use crate::order::Track;
 use crate::order::all_long;
 use crate::order::is_overlong;
@@ -335,6 +336,7 @@ fn order_for(s: Sheet) -> Order
         protect: false,
         immed: false,
         erase: false,
+        recipe: Recipe::Old,
         count: s.count,
         tracks: tracks,
     }

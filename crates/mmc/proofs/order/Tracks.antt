@@ -1,7 +1,7 @@
 -- One more track of an order, in the loops that judge the tracks.
 use mathlib.Core.Path.{_≡_, sym, ap, _∙_}
 use mathlib.Core.List.{List, [], _∷_}
-use mathlib.Core.Bool.{true, _&&_}
+use mathlib.Core.Bool.{true, not, _&&_}
 use Prim.Native.Nat.{ℕ, _+_, _≤_, _<_, min}
 use native.Mathlib.Numerals.{add-one}
 use native.Mathlib.Omega.{arith}
@@ -10,7 +10,7 @@ use lib.Seq.{drop-cons, getD-take, length-take-le, take-all}
 use native.Mathlib.Decide.{decLe}
 use lib.Dec.{leb}
 use borrow.Author.Tests.{leb-true}
-use Rattle.mmc.specs.Order.{noTrack, isNone, allNone, validOrder, sameKind, allKind, allLong, blocksOf}
+use Rattle.mmc.specs.Order.{noTrack, isNone, allNone, newSao, validOrder, sameKind, allKind, allLong, blocksOf}
 use Rattle.mmc.specs.declared.order.Order.{Order}
 use Rattle.mmc.specs.declared.order.Track.{Track}
 use Rattle.mmc.specs.declared.order.Kind.{Kind}
@@ -74,5 +74,5 @@ capped ts n z = by (decLe n 99)
 pub valid-few : (o : Order) → validOrder o ≡ true → o .count ≤ 99
 unfolding validOrder
 valid-few o v =
-    let w = both (leb _ (o .count)) (leb (o .count) _ && allNone (drop (o .count) (o .tracks))) v in
-    omega (arith, leb-true (o .count) _ (both (leb (o .count) _) (allNone (drop (o .count) (o .tracks))) (w .1) .0))
+    let w = both (leb _ (o .count)) (leb (o .count) _ && (allNone (drop (o .count) (o .tracks)) && not (newSao o))) v in
+    omega (arith, leb-true (o .count) _ (both (leb (o .count) _) (allNone (drop (o .count) (o .tracks)) && not (newSao o)) (w .1) .0))

@@ -7,13 +7,13 @@ use native.Mathlib.Nat.{add-le-add}
 use native.Mathlib.Omega.{arith}
 use borrow.Author.Tests.{eqb-true, leb-true, le-leb}
 use lib.Dec.{eqb, leb}
-use lib.ListN.{length, take, drop, replicate, length-drop}
-use lib.Seq.{drop-at, take-add, length-take-le}
+use lib.ListN.{length, getD, take, drop, replicate, length-drop}
+use lib.Seq.{drop-at, drop-drop, getD-at, drop-cons, take-add, length-take-le}
 use Rattle.mmc.specs.Block.{sealed, checkSum, blockFault}
 use Rattle.basics.specs.Bytes.{if, bytes32, be32, allZero}
-use Rattle.mmc.specs.OrderBlock.{orderBlock, methodByte, methodOf, flagsByte, keepOf, protectOf, immedOf, eraseOf, lastMethod, lastFlags, headOk, row, rows, orderBody, orderBytes, kindByte, kindOf, kindsOk, trackOf, tracksOf, fieldsOf, orderOk, readOrder}
+use Rattle.mmc.specs.OrderBlock.{orderBlock, methodByte, methodOf, flagsByte, keepOf, protectOf, immedOf, eraseOf, recipeByte, recipeOf, lastMethod, lastFlags, lastRecipe, headOk, restOk, row, rows, orderBody, orderBytes, kindByte, kindOf, kindsOk, trackOf, tracksOf, fieldsOf, orderOk, readOrder}
 use Rattle.mmc.specs.Order.{validOrder}
-use Rattle.mmc.proofs.order_block.Rows.{body-length, rows-495}
+use Rattle.mmc.proofs.order_block.Rows.{behindRows, body-length, rows-495}
 use Rattle.mmc.proofs.block.Laws.{sealed-ok, sealed-is, fault-length, read-listed, read-passed}
 use Rattle.basics.proofs.Tests.{both, known}
 use Rattle.basics.proofs.Bytes.{Bytes, be32-bytes32, bytes32-be32, zeros-are}
@@ -21,11 +21,13 @@ use Rattle.mmc.specs.Refusals.{pass, refuse}
 use Rattle.mmc.specs.declared.order.Order.{Order}
 use Rattle.mmc.specs.declared.order.Method.{Method}
 use Rattle.mmc.specs.declared.order.Method.the-variants.{Tao, Sao}
+use Rattle.mmc.specs.declared.order.Recipe.{Recipe}
+use Rattle.mmc.specs.declared.order.Recipe.the-variants.{Old, New}
 use Rattle.mmc.specs.declared.order.Track.{Track}
 use Rattle.mmc.specs.declared.order.Kind.{Kind}
 use Rattle.mmc.specs.declared.order.Kind.the-variants.{Audio, Data}
 
--- ---- method and flags, there and back
+-- ---- method, flags and recipe, there and back
 
 method-back : (m : Method) → methodOf (methodByte m) ≡ m
 unfolding methodOf
@@ -90,6 +92,19 @@ flags-is : (n : ℕ) → n ≤ 15 → flagsByte (keepOf n) (protectOf n) (immedO
 unfolding each keepOf protectOf immedOf eraseOf
 flags-is n h = eqb-true _ n (each-is (λ (x : ℕ). eqb (flagsByte (keepOf x) (protectOf x) (immedOf x) (eraseOf x)) x) 16 n refl (omega arith))
 
+recipe-back : (q : Recipe) → recipeOf (recipeByte q) ≡ q
+recipe-back Old = refl
+recipe-back New = refl
+
+recipe-small : (q : Recipe) → leb (recipeByte q) lastRecipe ≡ true
+recipe-small Old = refl
+recipe-small New = refl
+
+recipe-is : (n : ℕ) → n ≤ 1 → recipeByte (recipeOf n) ≡ n
+recipe-is zero h = refl
+recipe-is (suc zero) h = refl
+recipe-is (suc (suc n)) h = absurd (omega arith)
+
 -- ---- the rows read back
 
 kind-back : (k : Kind) → kindOf (kindByte k) ≡ k
@@ -117,12 +132,16 @@ kinds-back (x ∷ ts) t = rw (kind-small (x .kind), kinds-back ts t)
 
 module _ (o : Order) (z : length (o .tracks) ≡ 99) where
   tail : List ℕ
-  tail = replicate 11 0 ++ checkSum (orderBody o) / 256 ∷ checkSum (orderBody o) % 256 ∷ []
+  tail = behindRows o ++ checkSum (orderBody o) / 256 ∷ checkSum (orderBody o) % 256 ∷ []
 
   -- the block from its rows on
   laid : orderBytes o ≡ 1 ∷ methodByte (o .method) ∷ flagsByte (o .keep) (o .protect) (o .immed) (o .erase) ∷ o .count ∷ (rows (o .tracks) ++ tail)
   unfolding orderBytes sealed orderBody tail
-  laid = ap (λ (t : List ℕ). 1 ∷ methodByte (o .method) ∷ flagsByte (o .keep) (o .protect) (o .immed) (o .erase) ∷ o .count ∷ t) (append-assoc (rows (o .tracks)) (replicate 11 0) (checkSum (orderBody o) / 256 ∷ checkSum (orderBody o) % 256 ∷ []))
+  laid = ap (λ (t : List ℕ). 1 ∷ methodByte (o .method) ∷ flagsByte (o .keep) (o .protect) (o .immed) (o .erase) ∷ o .count ∷ t) (append-assoc (rows (o .tracks)) (behindRows o) (checkSum (orderBody o) / 256 ∷ checkSum (orderBody o) % 256 ∷ []))
+
+  recipe-at : getD (orderBytes o) 499 0 ≡ recipeByte (o .recipe)
+  unfolding tail
+  recipe-at = rw laid (getD-at (rows (o .tracks)) (recipeByte (o .recipe)) _ 0 495 (rows-495 o z))
 
   fields-back : fieldsOf (orderBytes o) ≡ o
   unfolding fieldsOf
@@ -130,11 +149,14 @@ module _ (o : Order) (z : length (o .tracks) ≡ 99) where
       let r : List ℕ = rows (o .tracks) ++ tail in
       let e : tracksOf 99 r ≡ o .tracks = ap (λ (n : ℕ). tracksOf n r) (sym z) ∙ tracks-back (o .tracks) tail in
       let f = flags-back (o .keep) (o .protect) (o .immed) (o .erase) in
-      rw (laid, e, method-back (o .method), f .0, f .1, f .2, f .3)
+      rw (recipe-at, recipe-back (o .recipe), laid, e, method-back (o .method), f .0, f .1, f .2, f .3)
 
-  rest-zero : allZero (take 11 (drop 499 (orderBytes o))) ≡ true
+  rest-back : restOk (orderBytes o) ≡ true
   unfolding allZero tail
-  rest-zero = rw (laid, drop-at (rows (o .tracks)) tail 495 (rows-495 o z))
+  rest-back =
+      let r : List ℕ = rows (o .tracks) ++ tail in
+      let e : drop 496 r ≡ drop 1 tail = sym (drop-drop 1 495 r) ∙ ap (drop 1) (drop-at (rows (o .tracks)) tail 495 (rows-495 o z)) in
+      rw (recipe-at, recipe-small (o .recipe), laid, e)
 
   no-fault : blockFault (orderBytes o) ≡ 0
   unfolding orderBytes
@@ -146,7 +168,7 @@ module _ (o : Order) (z : length (o .tracks) ≡ 99) where
   read-back v =
       let head : headOk (orderBytes o) ≡ true = ap headOk laid ∙ head-back (o .method) _ (o .count) _ (flags-small (o .keep) (o .protect) (o .immed) (o .erase)) in
       let kinds : kindsOk 99 (drop 4 (orderBytes o)) ≡ true = rw (laid, ← z) (kinds-back (o .tracks) tail) in
-      simp (head, kinds, fields-back, v, rest-zero) (read-listed (orderBytes o) true o no-fault refl)
+      simp (head, kinds, fields-back, v, rest-back) (read-listed (orderBytes o) true o no-fault refl)
 
 -- ---- a reader takes no other block
 
@@ -164,7 +186,7 @@ rows-are (suc k) (a ∷ b ∷ c ∷ d ∷ e ∷ x) h u g =
     rw (n, kind-is a (leb-true a 1 (s .0)), bytes32-be32 b c d e (u 1) (u 2) (u 3) (u 4), rows-are k x (omega arith) (λ i. u (suc (suc (suc (suc (suc i)))))) (s .1))
 
 -- a block whose fields are an order's is that order's body
-body-is : (b : List ℕ) → Bytes b → length b ≡ 512 → headOk b ≡ true → kindsOk 99 (drop 4 b) ≡ true → allZero (take 11 (drop 499 b)) ≡ true → take 510 b ≡ orderBody (fieldsOf b)
+body-is : (b : List ℕ) → Bytes b → length b ≡ 512 → headOk b ≡ true → kindsOk 99 (drop 4 b) ≡ true → restOk b ≡ true → take 510 b ≡ orderBody (fieldsOf b)
 unfolding orderBody fieldsOf headOk
 body-is [] u n f g z = absurd (omega arith)
 body-is (a ∷ []) u n f g z = absurd (omega arith)
@@ -172,9 +194,12 @@ body-is (a ∷ b ∷ []) u n f g z = absurd (omega arith)
 body-is (a ∷ b ∷ c ∷ []) u n f g z = absurd (omega arith)
 body-is (a ∷ b ∷ c ∷ d ∷ x) u n f g z =
     let r : rows (tracksOf 99 x) ≡ take 495 x = rows-are 99 x (omega arith) (λ i. u (suc (suc (suc (suc i))))) g in
-    let m : length (take 11 (drop 495 x)) ≡ 11 = length-take-le 11 (drop 495 x) (omega (arith, length-drop 495 x)) in
-    let y : take 11 (drop 495 x) ≡ replicate 11 0 = zeros-are (take 11 (drop 495 x)) z ∙ ap (λ (k : ℕ). replicate k 0) m in
-    let w : take 506 x ≡ rows (tracksOf 99 x) ++ replicate 11 0 = take-add 495 11 x ∙ rw (r, y) in
+    let t = both (leb (getD x 495 0) lastRecipe) (allZero (take 10 (drop 496 x))) z in
+    let m : length (take 10 (drop 496 x)) ≡ 10 = length-take-le 10 (drop 496 x) (omega (arith, length-drop 496 x)) in
+    let y : take 10 (drop 496 x) ≡ replicate 10 0 = zeros-are (take 10 (drop 496 x)) (t .1) ∙ ap (λ (k : ℕ). replicate k 0) m in
+    let v : take 11 (drop 495 x) ≡ recipeByte (recipeOf (getD x 495 0)) ∷ replicate 10 0 =
+    ap (take 11) (drop-cons x 495 0 (omega arith)) ∙ rw (y, recipe-is (getD x 495 0) (leb-true _ lastRecipe (t .0))) in
+    let w : take 506 x ≡ rows (tracksOf 99 x) ++ recipeByte (recipeOf (getD x 495 0)) ∷ replicate 10 0 = take-add 495 11 x ∙ rw (r, v) in
     let p = both (eqb a 1 && leb 1 b) (leb b lastMethod && leb c lastFlags) f in
     let q = both (eqb a 1) (leb 1 b) (p .0) in
     let s = both (leb b lastMethod) (leb c lastFlags) (p .1) in
@@ -198,8 +223,8 @@ pub written : (b : List ℕ) → Bytes b → (o : Order) → readOrder b ≡ pas
 unfolding readOrder orderOk orderBytes orderBlock
 written b u o h =
     let t = read-passed b (orderOk b) (fieldsOf b) o h in
-    let k = both (headOk b) (kindsOk 99 (drop 4 b) && (validOrder (fieldsOf b) && allZero (take 11 (drop 499 b)))) (t .1) in
-    let g = both (kindsOk 99 (drop 4 b)) (validOrder (fieldsOf b) && allZero (take 11 (drop 499 b))) (k .1) in
-    let v = both (validOrder (fieldsOf b)) (allZero (take 11 (drop 499 b))) (g .1) in
+    let k = both (headOk b) (kindsOk 99 (drop 4 b) && (validOrder (fieldsOf b) && restOk b)) (t .1) in
+    let g = both (kindsOk 99 (drop 4 b)) (validOrder (fieldsOf b) && restOk b) (k .1) in
+    let v = both (validOrder (fieldsOf b)) (restOk b) (g .1) in
     let e : b ≡ sealed (orderBody (fieldsOf b)) = sealed-is b u (t .0) ∙ ap sealed (body-is b u (fault-length b (t .0)) (k .0) (g .0) (v .1)) in
     rw (← t .2) (simp (v .0) (ap pass (sym e)))

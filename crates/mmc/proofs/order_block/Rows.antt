@@ -11,7 +11,7 @@ use lib.Seq.{take-suc-set, append-snoc, drop-drop, take-all, getD-drop, take-at,
 use lib.Dec.{leb}
 use Rattle.basics.specs.Bytes.{putAt, bytes32}
 use Rattle.mmc.specs.Block.{sealed}
-use Rattle.mmc.specs.OrderBlock.{kindsOk, tracksOf, trackOf, row, rows, orderBody, orderBytes, methodByte, flagsByte}
+use Rattle.mmc.specs.OrderBlock.{kindsOk, tracksOf, trackOf, row, rows, orderBody, orderBytes, methodByte, flagsByte, recipeByte}
 use Rattle.basics.proofs.Bytes.{put-next}
 use Rattle.mmc.specs.declared.order.Order.{Order}
 use Rattle.mmc.specs.declared.order.Track.{Track}
@@ -92,30 +92,34 @@ rows-end i ts d h e =
     let n : length (rows ts) ≡ 5 * i = omega (arith, rows-length ts) in
     rw (n, take-all i ts (omega arith))
 
+-- what stands behind the rows
+abbrev pub behindRows : Order → List ℕ
+behindRows o = recipeByte (o .recipe) ∷ replicate 10 0
+
 module _ (o : Order) (h : length (o .tracks) ≡ 99) where
   pub rows-495 : length (rows (o .tracks)) ≡ 495
   rows-495 = omega (arith, rows-length (o .tracks))
 
   pub body-length : length (orderBody o) ≡ 510
   unfolding orderBody
-  body-length = omega (arith, rows-495, length-append (rows (o .tracks)) (replicate 11 0))
+  body-length = omega (arith, rows-495, length-append (rows (o .tracks)) (behindRows o))
 
-  -- head, rows and zeros, put one after the other
+  -- head, rows and what stands behind them, put one after the other
   body-put : (d : List ℕ)
-      → putAt (putAt (putAt d 0 (1 ∷ methodByte (o .method) ∷ flagsByte (o .keep) (o .protect) (o .immed) (o .erase) ∷ o .count ∷ [])) 4 (rows (o .tracks))) 499 (replicate 11 0) ≡ orderBody o ++ drop 510 d
+      → putAt (putAt (putAt d 0 (1 ∷ methodByte (o .method) ∷ flagsByte (o .keep) (o .protect) (o .immed) (o .erase) ∷ o .count ∷ [])) 4 (rows (o .tracks))) 499 (behindRows o) ≡ orderBody o ++ drop 510 d
   unfolding orderBody
   body-put d =
       let head : List ℕ = 1 ∷ methodByte (o .method) ∷ flagsByte (o .keep) (o .protect) (o .immed) (o .erase) ∷ o .count ∷ [] in
       let r : List ℕ = rows (o .tracks) in
       let n : 4 + length r ≡ 499 = omega (arith, rows-495) in
-      ap (λ (t : List ℕ). putAt (putAt t 4 r) 499 (replicate 11 0)) (put-next [] d head 0 refl)
-      ∙ ap (λ (t : List ℕ). putAt t 499 (replicate 11 0)) (put-next head d r 4 refl ∙ ap (λ (k : ℕ). head ++ r ++ drop k d) n)
-      ∙ put-next (head ++ r) d (replicate 11 0) 499 (omega (arith, rows-495))
+      ap (λ (t : List ℕ). putAt (putAt t 4 r) 499 (behindRows o)) (put-next [] d head 0 refl)
+      ∙ ap (λ (t : List ℕ). putAt t 499 (behindRows o)) (put-next head d r 4 refl ∙ ap (λ (k : ℕ). head ++ r ++ drop k d) n)
+      ∙ put-next (head ++ r) d (behindRows o) 499 (omega (arith, rows-495))
 
   -- as the code puts them
-  pub body-steps : (d : List ℕ) {d₁ d₂ d₃ : List ℕ} {m f : ℕ} → m ≡ methodByte (o .method) → f ≡ flagsByte (o .keep) (o .protect) (o .immed) (o .erase)
-      → d₁ ≡ putAt d 0 (1 ∷ m ∷ f ∷ o .count ∷ []) → d₂ ≡ putAt d₁ 4 (rows (o .tracks)) → d₃ ≡ putAt d₂ 499 (replicate 11 0) → d₃ ≡ orderBody o ++ drop 510 d
-  body-steps d em ef p1 p2 p3 = cc (body-put d)
+  pub body-steps : (d : List ℕ) {d₁ d₂ d₃ : List ℕ} {m f q : ℕ} → m ≡ methodByte (o .method) → f ≡ flagsByte (o .keep) (o .protect) (o .immed) (o .erase) → q ≡ recipeByte (o .recipe)
+      → d₁ ≡ putAt d 0 (1 ∷ m ∷ f ∷ o .count ∷ []) → d₂ ≡ putAt d₁ 4 (rows (o .tracks)) → d₃ ≡ putAt d₂ 499 (q ∷ replicate 10 0) → d₃ ≡ orderBody o ++ drop 510 d
+  body-steps d em ef eq p1 p2 p3 = cc (body-put d)
 
   -- the check, put behind it
   pub block-put : (d : List ℕ) → sealed (take 510 (orderBody o ++ drop 510 d)) ≡ orderBytes o

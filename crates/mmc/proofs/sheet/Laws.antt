@@ -1,7 +1,7 @@
 -- Sheets read back to what was made, and a reader takes no others.
 use mathlib.Core.Path.{_≡_, refl, sym, ap, subst, _∙_}
 use mathlib.Core.List.{List, [], _∷_, _++_, map, map-append}
-use mathlib.Core.Bool.{true, false, _&&_}
+use mathlib.Core.Bool.{Bool, true, false, not, _&&_}
 use Prim.Native.Nat.{ℕ, zero, suc, _+_, _*_, _-_, _/_, _%_, _≤_, _<_}
 use native.Mathlib.Omega.{arith}
 use borrow.Author.Tests.{eq-eqb, eqb-true, leb-true, le-leb}
@@ -11,7 +11,7 @@ use lib.Seq.{length-take-le, take-at}
 use Rattle.basics.specs.Bytes.{sameBytes}
 use Rattle.basics.proofs.Tests.{false-true, both, known}
 use Rattle.basics.proofs.Bytes.{same-is, same-refl}
-use Rattle.mmc.specs.Order.{noTrack, isNone, isAudio, allNone, validOrder, sameKind, tracksIn, orderKind, mixedOrKept, overlong, allKind, allLong, blocksOf, leastBlocks}
+use Rattle.mmc.specs.Order.{noTrack, isNone, isAudio, isNew, allNone, newSao, validOrder, sameKind, tracksIn, orderKind, mixedOrKept, overlong, allKind, allLong, blocksOf, leastBlocks}
 use Rattle.mmc.specs.Times.{firstAddress, lastAddress, leadInMinute, isTime, framesTo, addressAt, timeFrames, addressAtTime, addressOf}
 use Rattle.mmc.specs.Sheet.{sheetFault, controlOf, cueEntry, leadInEntry, pauseEntry, startEntry, leadOutEntry, trackEntries, allEntries, sheetOf, sheetBytes, framesIn, kindIn, lengthIn, lengthsIn, noLength, tracksBeside, sheetIn, sheetSize, trackFor, orderFor, isSheet, readSheet, cueSheet, lengthOf, sheetFor, timesIn, Below, Rising, Ordered, entryTime, minuteIn, addressesIn, startsFrom}
 use Rattle.mmc.proofs.refusals.Laws.{without-fault}
@@ -26,6 +26,8 @@ use Rattle.mmc.specs.declared.order.Track.{Track}
 use Rattle.mmc.specs.declared.order.Kind.{Kind}
 use Rattle.mmc.specs.declared.order.Kind.the-variants.{Audio, Data}
 use Rattle.mmc.specs.declared.order.Method.the-variants.{Sao}
+use Rattle.mmc.specs.declared.order.Recipe.{Recipe}
+use Rattle.mmc.specs.declared.order.Recipe.the-variants.{Old, New}
 use Rattle.mmc.specs.declared.sheet.Sheet.{Sheet}
 
 -- ---- what is made reads back
@@ -97,18 +99,19 @@ kind-back Data = refl
 
 -- the order without its flags: all that a sheet holds of it
 abbrev pub plain : Order → Order
-plain o = record { method = Sao; keep = false; protect = false; immed = false; erase = false; count = o .count; tracks = o .tracks }
+plain o = record { method = Sao; keep = false; protect = false; immed = false; erase = false; recipe = Old; count = o .count; tracks = o .tracks }
 
 module _ (o : Order) (z : length (o .tracks) ≡ 99) (f : sheetFault o ≡ 0) where
   s : Sheeted o
   s = sheeted o f
 
-  few : (1 ≤ o .count) × (o .count ≤ 99) × (allNone (drop (o .count) (o .tracks)) ≡ true)
+  few : (1 ≤ o .count) × (o .count ≤ 99) × (allNone (drop (o .count) (o .tracks)) ≡ true) × (not (newSao o) ≡ true)
   unfolding validOrder
   few =
-      let w = both (leb _ (o .count)) (leb (o .count) _ && allNone (drop (o .count) (o .tracks))) (s .valid) in
-      let v = both (leb (o .count) _) (allNone (drop (o .count) (o .tracks))) (w .1) in
-      (omega (arith, leb-true _ (o .count) (w .0)), omega (arith, leb-true (o .count) _ (v .0)), v .1)
+      let w = both (leb _ (o .count)) (leb (o .count) _ && (allNone (drop (o .count) (o .tracks)) && not (newSao o))) (s .valid) in
+      let v = both (leb (o .count) _) (allNone (drop (o .count) (o .tracks)) && not (newSao o)) (w .1) in
+      let u = both (allNone (drop (o .count) (o .tracks))) (not (newSao o)) (v .1) in
+      (omega (arith, leb-true _ (o .count) (w .0)), omega (arith, leb-true (o .count) _ (v .0)), u .0, u .1)
 
   tracks-are : length (tracksIn o) ≡ o .count
   tracks-are = length-take-le (o .count) (o .tracks) (omega (arith, few))
@@ -166,11 +169,19 @@ module _ (o : Order) (z : length (o .tracks) ≡ 99) (f : sheetFault o ≡ 0) wh
       let t : take (o .count) (map lengthOf (o .tracks)) ≡ map lengthOf (tracksIn o) = ap (take (o .count)) all-lengths ∙ take-at (map lengthOf (tracksIn o)) _ (o .count) n in
       let e : map (trackFor (orderKind o)) (take (o .count) (map lengthOf (o .tracks))) ++ replicate (99 - o .count) noTrack ≡ o .tracks =
       rw (t, tracks-of (orderKind o) (tracksIn o) (s .kinds), ← nones) (take-append-drop (o .count) (o .tracks)) in
-      ap (λ (l : List Track). record { method = Sao; keep = false; protect = false; immed = false; erase = false; count = o .count; tracks = l }) e
+      ap (λ (l : List Track). record { method = Sao; keep = false; protect = false; immed = false; erase = false; recipe = Old; count = o .count; tracks = l }) e
+
+  -- SAO goes with the old recipe
+  old : isNew (o .recipe) ≡ false
+  old = flip (isNew (o .recipe)) (ap (λ (b : Bool). not (b && isNew (o .recipe))) (sym (s .sao)) ∙ few .3)
+    where
+      flip : (b : Bool) → not b ≡ true → b ≡ false
+      flip true e = sym e
+      flip false e = refl
 
   plain-fault : sheetFault (plain o) ≡ 0
   unfolding validOrder sheetFault mixedOrKept overlong
-  plain-fault = simp (s .sao, s .closed) at f
+  plain-fault = simp (s .sao, s .closed, old) at f
 
   plain-sheet : sheetOf (plain o) ≡ sheetOf o
   unfolding sheetOf

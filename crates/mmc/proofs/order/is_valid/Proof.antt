@@ -1,4 +1,4 @@
-use borrow.Author.Tests.{lt-leb, le-leb}
+use borrow.Author.Tests.{lt-leb, le-leb, not-true, not-false}
 use borrow.Author.Needs.{needs}
 use Rattle.mmc.specs.Order.{validOrder}
 use Rattle.mmc.proofs.order.is_valid.Statement.{statement}
@@ -17,7 +17,19 @@ rest-none-requires c κs = search needs
 
 returns-3 : tie.Need-returns-3
 unfolding validOrder
-returns-3 c = simp (c .rest-none .ensures, le-leb _ _ (c .before .before .if1 .left), le-leb _ _ (c .before .if2 .left))
+returns-3 c =
+    let n = c .before in
+    simp (← n .rest-none .ensures, not-true (n .rest-none .result) (c .if3 .taken), le-leb _ _ (n .before .before .if1 .left), le-leb _ _ (n .before .if2 .left))
+
+new-sao-requires : tie.Need-new-sao-requires
+new-sao-requires c κs = search needs
+
+returns-4 : tie.Need-returns-4
+unfolding validOrder
+returns-4 c =
+    let d = c .before in
+    let n = d .before in
+    simp (← n .rest-none .ensures, not-false (n .rest-none .result) (d .if3 .left), c .new-sao .ensures, le-leb _ _ (n .before .before .if1 .left), le-leb _ _ (n .before .if2 .left))
 
 pub is-valid-spec : {M : Type 1} → statement M
-is-valid-spec = tie.close (tie.spec returns returns-2 rest-none-requires returns-3)
+is-valid-spec = tie.close (tie.spec returns returns-2 rest-none-requires returns-3 new-sao-requires returns-4)

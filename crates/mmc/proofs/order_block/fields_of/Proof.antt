@@ -15,12 +15,18 @@ shared-slice-read-flags c = search needs
 shared-slice-read-count : tie.Need-shared-slice-read-count
 shared-slice-read-count c = search needs
 
+shared-slice-read-recipe-of : tie.Need-shared-slice-read-recipe-of
+shared-slice-read-recipe-of c = search needs
+
+recipe-of-requires : tie.Need-recipe-of-requires
+recipe-of-requires c κs = search needs
+
 tracks-of-requires : tie.Need-tracks-of-requires
 tracks-of-requires c κs = search needs
 
 returns : tie.Need-returns
 unfolding fieldsOf keepOf protectOf immedOf eraseOf
-returns c = simp (c .before .before .before .method-of .ensures, c .tracks-of .ensures)
+returns c = simp (c .before .before .before .before .before .method-of .ensures, c .before .recipe-of .ensures, c .tracks-of .ensures)
 
 pub fields-of-spec : {M : Type 1} → statement M
 fields-of-spec =
@@ -30,5 +36,7 @@ fields-of-spec =
     method-of-requires
     shared-slice-read-flags
     shared-slice-read-count
+    shared-slice-read-recipe-of
+    recipe-of-requires
     tracks-of-requires
     returns)

@@ -36,27 +36,18 @@ returns-3 c =
     let h = k .before .before .head-ok in
     simp (← h .ensures, not-false (h .result) (k .before .if1 .left), ← k .kinds-ok .ensures, not-false (k .kinds-ok .result) (e .if2 .left), ← v .before .fields-of .ensures, ← v .is-valid .ensures, not-true (v .is-valid .result) (c .if3 .taken))
 
-sub-all-zero : tie.Need-sub-all-zero
-sub-all-zero c = search needs
-
-part-all-zero-start : tie.Need-part-all-zero-start
-part-all-zero-start c = search needs
-
-part-all-zero-end : tie.Need-part-all-zero-end
-part-all-zero-end c = search needs
-
-all-zero-requires : tie.Need-all-zero-requires
-all-zero-requires c κs = search needs
+rest-ok-requires : tie.Need-rest-ok-requires
+rest-ok-requires c κs = search needs
 
 returns-4 : tie.Need-returns-4
 unfolding orderOk
 returns-4 c =
-    let z = c .before .before in
+    let z = c .before in
     let v = z .before in
     let e = v .before .before in
     let k = e .before in
     let h = k .before .before .head-ok in
-    simp (c .all-zero .ensures, ← h .ensures, not-false (h .result) (k .before .if1 .left), ← k .kinds-ok .ensures, not-false (k .kinds-ok .result) (e .if2 .left), ← v .before .fields-of .ensures, ← v .is-valid .ensures, not-false (v .is-valid .result) (z .if3 .left))
+    simp (c .rest-ok .ensures, ← h .ensures, not-false (h .result) (k .before .if1 .left), ← k .kinds-ok .ensures, not-false (k .kinds-ok .result) (e .if2 .left), ← v .before .fields-of .ensures, ← v .is-valid .ensures, not-false (v .is-valid .result) (z .if3 .left))
 
 pub order-ok-spec : {M : Type 1} → statement M
 order-ok-spec =
@@ -69,8 +60,5 @@ order-ok-spec =
     fields-of-requires
     is-valid-requires
     returns-3
-    sub-all-zero
-    part-all-zero-start
-    part-all-zero-end
-    all-zero-requires
+    rest-ok-requires
     returns-4)

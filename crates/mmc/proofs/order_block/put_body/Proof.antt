@@ -24,6 +24,9 @@ put-requires c κs = search needs
 put-rows-requires : tie.Need-put-rows-requires
 put-rows-requires c κs = search needs
 
+recipe-byte-requires : tie.Need-recipe-byte-requires
+recipe-byte-requires c κs = search needs
+
 slice-aggregate-put-2 : tie.Need-slice-aggregate-put-2
 slice-aggregate-put-2 c = search needs
 
@@ -36,12 +39,13 @@ same-length c = search needs
 returns : tie.Need-returns
 returns c =
     let q = c .before .before in
-    let r = q .before .before .before .before .before in
+    let z = q .before .before .before in
+    let r = z .before .before .before in
     let p = r .before .before .before .before in
     let f = p .before .before .before in
     let m = f .before in
     let st = m .before .before in
-    body-steps (st .args .o) (sized st) (st .args .out .now) (m .method-byte .ensures) (f .flags-byte .ensures) (p .put .ensures) (r .put-rows .ensures) (q .put2 .ensures)
+    body-steps (st .args .o) (sized st) (st .args .out .now) (m .method-byte .ensures) (f .flags-byte .ensures) (z .recipe-byte .ensures) (p .put .ensures) (r .put-rows .ensures) (q .put2 .ensures)
 
 pub put-body-spec : {M : Type 1} → statement M
 put-body-spec =
@@ -52,6 +56,7 @@ put-body-spec =
     slice-aggregate-put
     put-requires
     put-rows-requires
+    recipe-byte-requires
     slice-aggregate-put-2
     put-requires-2
     same-length
