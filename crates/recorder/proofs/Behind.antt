@@ -15,12 +15,14 @@ use Rattle.mmc.specs.declared.order.Order.{Order}
 use Rattle.mmc.specs.declared.order.Track.{Track}
 use Rattle.mmc.specs.declared.order.Method.{Method}
 use Rattle.mmc.specs.declared.order.Method.the-variants.{Tao, Sao}
+use Rattle.mmc.specs.declared.order.Recipe.{Recipe}
+use Rattle.mmc.specs.declared.order.Recipe.the-variants.{Old, New}
 use Rattle.recorder.specs.declared.script.Op.{Op}
 use Rattle.recorder.specs.declared.script.Op.the-variants.{GetConfiguration, ReadDiscInformation, ReadTrackInformation, ModeSelect, SendCueSheet, Write, SynchronizeCache, CloseTrack, CloseSession, Blank, TestUnitReady, RequestSense}
 use Rattle.recorder.specs.declared.places.Following.{Following}
 use Rattle.recorder.specs.declared.places.Following.the-variants.{Next as Then, Nothing}
-use Rattle.recorder.specs.Script.{write, portion, writesFor, writes, writesFrom, beforeTracks, trackBy, eachTrack, script}
-use Rattle.recorder.specs.Places.{pieceEnded, beforeBlock, afterCloseTrack, pieceOf, afterIn}
+use Rattle.recorder.specs.Script.{write, portion, writesFor, writes, writesFrom, beforeTracks, closeBy, trackBy, eachTrack, script}
+use Rattle.recorder.specs.Places.{pieceEnded, beforeBlock, afterTrack, afterSynchronize, pieceOf, afterIn}
 use Rattle.recorder.proofs.Scripts.{by}
 
 -- an order as it is read
@@ -30,11 +32,6 @@ pub record Sized (o : Order) : Type 0 where
   pub all : length (tracksIn o) ≡ o .count
   pub valid : validOrder o ≡ true
 
--- by either method
-pub sized-by : (m : Method) (o : Order) → Sized o → Sized (by o m)
-unfolding validOrder
-sized-by m o z = record { some = z .some; few = z .few; all = z .all; valid = z .valid }
-
 -- ---- the parts of the script that are left
 
 -- the tracks after the first t, and the end
@@ -43,7 +40,7 @@ tracksFrom o t = eachTrack o t (drop t (tracksIn o))
 
 -- after the piece t
 abbrev tailBy : Method → Order → ℕ → List Op
-tailBy Tao o t = SynchronizeCache (record { 0 = t }) ∷ CloseTrack (record { 0 = t }) ∷ tracksFrom o t
+tailBy Tao o t = SynchronizeCache (record { 0 = t }) ∷ closeBy (o .recipe) t (tracksFrom o t)
 tailBy Sao o t = tracksFrom o t
 
 -- from the block f of the piece t on
@@ -55,7 +52,7 @@ pageBy Tao o t = piece o t 0
 pageBy Sao o t = SendCueSheet ∷ piece o 0 0
 
 abbrev synchronizedBy : Method → Order → ℕ → List Op
-synchronizedBy Tao o t = CloseTrack (record { 0 = t }) ∷ tracksFrom o t
+synchronizedBy Tao o t = closeBy (o .recipe) t (tracksFrom o t)
 synchronizedBy Sao o t = []
 
 -- behind an operation of the script, or A1h; a poll is none
@@ -88,10 +85,10 @@ track-length o t h =
     let l : t < o .count = omega arith in
     ap (λ (x : Track). x .length .0) (getD-take (o .count) (o .tracks) t noTrack l)
 
-pub next-track : (o : Order) (t : ℕ) → t < length (tracksIn o) → tracksFrom o t ≡ trackBy (o .method) (suc t) (pieceOf o (suc t)) (tracksFrom o (suc t))
+pub next-track : (o : Order) (t : ℕ) → t < length (tracksIn o) → tracksFrom o t ≡ trackBy (o .method) (o .recipe) (suc t) (pieceOf o (suc t)) (tracksFrom o (suc t))
 next-track o t h =
     ap (eachTrack o t) (drop-cons (tracksIn o) t noTrack h) ∙
-    ap (λ (l : ℕ). trackBy (o .method) (suc t) l (tracksFrom o (suc t))) (track-length o t h)
+    ap (λ (l : ℕ). trackBy (o .method) (o .recipe) (suc t) l (tracksFrom o (suc t))) (track-length o t h)
 
 no-track-left : (o : Order) (t : ℕ) → length (tracksIn o) ≤ t → tracksFrom o t ≡ eachTrack o t []
 no-track-left o t h = ap (eachTrack o t) (drop-of-length-le (tracksIn o) h)
@@ -157,8 +154,8 @@ after-page : (m : Method) (o : Order) (t : ℕ) → length (tracksIn o) ≡ o .c
 after-page Tao o t n = piece-on Tao o t 0 n tt
 after-page Sao o t n = refl
 
-after-closed : (o : Order) (t : ℕ) → length (tracksIn o) ≡ o .count → tracksFrom (by o Tao) t ≡ onto (by o Tao) (Then (afterCloseTrack (o .count) t))
-unfolding afterCloseTrack
+after-closed : (o : Order) (t : ℕ) → length (tracksIn o) ≡ o .count → tracksFrom (by o Tao) t ≡ onto (by o Tao) (Then (afterTrack (o .count) t))
+unfolding afterTrack
 after-closed o t n = go (ltb t (o .count)) refl
   where
     go : (b : Bool) → ltb t (o .count) ≡ b → tracksFrom (by o Tao) t ≡ onto (by o Tao) (Then (if b (ReadTrackInformation (record { 0 = suc t })) CloseSession))
@@ -169,16 +166,21 @@ opened : (m : Method) (o : Order) → Sized o → beforeTracks (by o m) (tracksF
 opened Tao o z = let n = z .some in let a = z .all in next-track (by o Tao) 0 (omega arith)
 opened Sao o z = refl
 
-closed : (m : Method) (o : Order) (t : TrackNumber) → length (tracksIn o) ≡ o .count → m ≡ Tao → tracksFrom (by o m) (t .0) ≡ onto (by o m) (Then (afterCloseTrack (o .count) (t .0)))
+closed : (m : Method) (o : Order) (t : TrackNumber) → length (tracksIn o) ≡ o .count → m ≡ Tao → tracksFrom (by o m) (t .0) ≡ onto (by o m) (Then (afterTrack (o .count) (t .0)))
 closed Tao o t n e = after-closed o (t .0) n
 closed Sao o t n e = absurd (no-method e)
   where
     no-method : Sao ≡ Tao → ⊥
     no-method e = let c : _≡_ {A = ℕ} 0 1 = cc in omega arith
 
-synchronized : (m : Method) (o : Order) (t : TrackNumber) → synchronizedBy m (by o m) (t .0) ≡ onto (by o m) (afterIn (by o m) (SynchronizeCache t))
-synchronized Tao o t = refl
-synchronized Sao o t = refl
+-- by the new recipe 35h closes the track
+synchronized-by : (q : Recipe) (o : Order) (t : ℕ) → length (tracksIn o) ≡ o .count → closeBy q t (tracksFrom (by o Tao) t) ≡ onto (by o Tao) (afterSynchronize Tao q (o .count) t)
+synchronized-by Old o t n = refl
+synchronized-by New o t n = after-closed o t n
+
+synchronized : (m : Method) (o : Order) (t : TrackNumber) → length (tracksIn o) ≡ o .count → synchronizedBy m (by o m) (t .0) ≡ onto (by o m) (afterIn (by o m) (SynchronizeCache t))
+synchronized Tao o t n = synchronized-by (o .recipe) o (t .0) n
+synchronized Sao o t n = refl
 
 goes-by : (m : Method) (o : Order) (x : Op) → Sized o → GoesOn m o x → behind (by o m) x ≡ onto (by o m) (afterIn (by o m) x)
 goes-by m o GetConfiguration z g = refl
@@ -187,7 +189,7 @@ goes-by m o (ReadTrackInformation t) z g = refl
 goes-by m o (ModeSelect t) z g = after-page m o (t .0) (z .all)
 goes-by m o SendCueSheet z g = piece-on m o 0 0 (z .all) g
 goes-by m o (Write t f k) z g = piece-on m o (t .0) (f .0 + k .0) (z .all) g
-goes-by m o (SynchronizeCache t) z g = synchronized m o t
+goes-by m o (SynchronizeCache t) z g = synchronized m o t (z .all)
 goes-by m o (CloseTrack t) z g = closed m o t (z .all) g
 goes-by m o CloseSession z g = refl
 goes-by m o Blank z g = refl

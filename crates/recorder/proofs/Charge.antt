@@ -15,6 +15,8 @@ use Rattle.mmc.specs.declared.order.Order.{Order}
 use Rattle.mmc.specs.declared.order.Track.{Track}
 use Rattle.mmc.specs.declared.order.Method.{Method}
 use Rattle.mmc.specs.declared.order.Method.the-variants.{Tao, Sao}
+use Rattle.mmc.specs.declared.order.Recipe.{Recipe}
+use Rattle.mmc.specs.declared.order.Recipe.the-variants.{Old, New}
 use Rattle.recorder.specs.declared.script.Op.{Op}
 use Rattle.recorder.specs.declared.script.Op.the-variants.{ReadDiscInformation}
 use Rattle.recorder.specs.declared.replies.TrackInformation.{TrackInformation}
@@ -22,7 +24,7 @@ use Rattle.recorder.specs.declared.replies.Reading.{Reading}
 use Rattle.recorder.specs.declared.exchanges.Seen.{Seen}
 use Rattle.recorder.specs.Answers.{because}
 use Rattle.recorder.specs.Replies.{reading}
-use Rattle.recorder.specs.Script.{code, trackIn, isPolled, portion, writes, writesFor, eachTrack, script}
+use Rattle.recorder.specs.Script.{closeBy, code, trackIn, isPolled, portion, writes, writesFor, eachTrack, script}
 use Rattle.recorder.specs.Exchanges.{Exchange, seen}
 use Rattle.recorder.specs.Rules.{toCome, charge, needed, unusable, fits, Judgement, onward, tested, discTests, erases, erasingIf, openingTests, laterTests, trackTests, isLast, pollsIf, judge, judged, move, left, none, found, refusedBy, firstRefused}
 use Rattle.recorder.specs.Places.{pieceOf}
@@ -84,13 +86,17 @@ writes-turn : (n k t l f c : ℕ) (m : List Op) → InTurn n k m → InTurn n k 
 writes-turn n k t l f zero m i = i
 writes-turn n k t l f (suc c) m i = (other refl refl, writes-turn n k t l (f + portion l f) c m i)
 
+close-turn : (q : Recipe) (n k t : ℕ) (m : List Op) → InTurn n k m → InTurn n k (closeBy q t m)
+close-turn Old n k t m i = (other refl refl, i)
+close-turn New n k t m i = i
+
 each-turn : (o : Order) (k : ℕ) (xs : List Track) → k + length xs ≤ o .count → InTurn (o .count) k (eachTrack (by o Tao) k xs)
 each-turn o k [] h = (other refl refl, tt)
 each-turn o k (x ∷ xs) h =
     let i = each-turn o (suc k) xs (omega arith) in
     let b : suc k ≤ o .count = omega arith in (
       record { track = λ e. (refl, b); disc = λ e. absurd (false-true e) },
-      (other refl refl, writes-turn (o .count) (suc k) (suc k) (x .length .0) 0 (writesFor (x .length .0 - 0)) _ (other refl refl, (other refl refl, i))),
+      (other refl refl, writes-turn (o .count) (suc k) (suc k) (x .length .0) 0 (writesFor (x .length .0 - 0)) _ (other refl refl, close-turn (o .recipe) (o .count) (suc k) (suc k) _ i)),
     )
 
 script-turn : (o : Order) → o .method ≡ Tao → length (tracksIn o) ≡ o .count → InTurn (o .count) 0 (script o)

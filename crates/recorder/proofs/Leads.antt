@@ -79,8 +79,8 @@ failed-asks o v x g r xs indication f q = absurd (false-true (sym f))
 failed-asks o v x g r xs ready f q = refl
 failed-asks o v x g r xs (unread u n) f q = absurd (false-true (sym f))
 
-module _ (o : Order) (x : Op) (v : Seen) (e : standsIn (o .method) (o .count) (pieceOf o (trackIn x)) (pieceOf o (suc (trackIn x))) (v .at) x ≡ true) where
-  standing : (1 ≤ o .count) × ((o .count ≤ mostTracks) × (standsAt (o .method) (o .count) (pieceOf o (trackIn x)) (pieceOf o (suc (trackIn x))) (v .at) x ≡ true))
+module _ (o : Order) (x : Op) (v : Seen) (e : standsIn (o .method) (o .recipe) (o .count) (pieceOf o (trackIn x)) (pieceOf o (suc (trackIn x))) (v .at) x ≡ true) where
+  standing : (1 ≤ o .count) × ((o .count ≤ mostTracks) × (standsAt (o .method) (o .recipe) (o .count) (pieceOf o (trackIn x)) (pieceOf o (suc (trackIn x))) (v .at) x ≡ true))
   unfolding standsIn
   standing =
       let p = both (leb 1 (o .count)) _ e in
@@ -95,17 +95,17 @@ module _ (o : Order) (x : Op) (v : Seen) (e : standsIn (o .method) (o .count) (p
   next-made r w = go (isAsking x) refl
     where
       go : (b : Bool) → isAsking x ≡ b → MakesThen (o .count) (afterIn o x) (see (o .method) x r v .at)
-      go true q = on-asking (o .count) _ v (standing .0) (standing .1 .0) (o .method) _ x _ q
+      go true q = on-asking (o .count) _ v (standing .0) (standing .1 .0) (o .method) (o .recipe) _ x _ q
       go false q =
           subst (λ (k : Reading). MakesThen (o .count) (afterIn o x) (see (o .method) x k v .at)) (sym (not-read x r q w))
-          (on-unread (o .count) _ v (standing .0) (standing .1 .0) (o .method) _ x pause-long (standing .1 .1) q)
+          (on-unread (o .count) _ v (standing .0) (standing .1 .0) (o .method) (o .recipe) _ x pause-long (standing .1 .1) q)
 
   -- the job has no place at 00h
   no-place : x ≡ TestUnitReady → ⊥
-  no-place p = false-true (subst (λ (y : Op). standsAt (o .method) (o .count) (pieceOf o (trackIn x)) (pieceOf o (suc (trackIn x))) (v .at) y ≡ true) p (standing .1 .1))
+  no-place p = false-true (subst (λ (y : Op). standsAt (o .method) (o .recipe) (o .count) (pieceOf o (trackIn x)) (pieceOf o (suc (trackIn x))) (v .at) y ≡ true) p (standing .1 .1))
 
   turn-made : (p : Poll) → standsPolled (o .immed) x p ≡ true → (g : Bool) (r : Reading) (j : Judgement) → Reads (dueAt x p) g r → judge o v (dueAt x p) r ≡ j → MakesTurn (o .count) (turnBy j o (record { place = x; poll = p; seen = v }) r)
-  turn-made Off c g r again w q = own-by (o .method) (o .count) _ _ (v .at) x (standing .0) (standing .1 .0) (standing .1 .1)
+  turn-made Off c g r again w q = own-by (o .method) (o .recipe) (o .count) _ _ (v .at) x (standing .0) (standing .1 .0) (standing .1 .1)
   turn-made Off c true r (onward []) w q = advanced-made (o .count) (afterIn o x) (see (o .method) x r v) (next-made r w)
   turn-made Off c false r (onward []) w q = absurd (no-place (failed-asks o v x false r [] w refl q))
   turn-made Off c g r (onward (y ∷ ys)) w q = aside-made (o .count) (isPoll y) x _
@@ -116,7 +116,7 @@ module _ (o : Order) (x : Op) (v : Seen) (e : standsIn (o .method) (o .count) (p
   turn-made Ready c g r (refused y) w q = tt
   turn-made Sense c g r again w q = tt
   turn-made Sense c g r (onward []) w q =
-      advanced-made (o .count) (afterIn o x) (see (o .method) RequestSense r v) (on-closed (o .count) _ v (standing .0) (standing .1 .0) (o .method) _ x _ (both (takesImmed x) _ c .0))
+      advanced-made (o .count) (afterIn o x) (see (o .method) RequestSense r v) (on-closed (o .count) _ v (standing .0) (standing .1 .0) (o .method) (o .recipe) _ x _ (both (takesImmed x) _ c .0))
   turn-made Sense c g r (onward (y ∷ ys)) w q = aside-made (o .count) (isPoll y) x _
   turn-made Sense c g r (refused y) w q = tt
 

@@ -21,6 +21,8 @@ use Rattle.mmc.specs.declared.units.BlockCount.{BlockCount}
 use Rattle.mmc.specs.declared.units.FrameCount.{FrameCount}
 use Rattle.mmc.specs.declared.order.Method.{Method}
 use Rattle.mmc.specs.declared.order.Method.the-variants.{Tao, Sao}
+use Rattle.mmc.specs.declared.order.Recipe.{Recipe}
+use Rattle.mmc.specs.declared.order.Recipe.the-variants.{Old, New}
 use Rattle.recorder.specs.declared.script.Op.{Op}
 use Rattle.recorder.specs.declared.script.Op.the-variants.{GetConfiguration, ReadDiscInformation, ReadTrackInformation, ModeSelect, SendCueSheet, Write, SynchronizeCache, CloseTrack, CloseSession, Blank, TestUnitReady, RequestSense}
 use Rattle.recorder.specs.declared.places.Following.{Following}
@@ -32,7 +34,7 @@ use Rattle.recorder.specs.Answers.{madeBy, cdbOf, bytesIn}
 use Rattle.recorder.specs.Script.{takesImmed, write, portion, stepwise}
 use Rattle.recorder.specs.Exchanges.{see}
 use Rattle.recorder.specs.Rules.{lastFrame}
-use Rattle.recorder.specs.Places.{pieceEnded, beforeBlock, afterCloseTrack, opAfter}
+use Rattle.recorder.specs.Places.{pieceEnded, beforeBlock, afterTrack, afterSynchronize, opAfter}
 use Rattle.recorder.specs.Job.{inOrder, inTime, inPiece, isWrite, standsAt}
 use Rattle.recorder.proofs.Lists.{if-yes, false-true, both, clash}
 use Rattle.recorder.proofs.Turns.{Asks, a46, a51, a52, a03, isAsking, Reads, malformed, profile, status, information, indication, ready, unread}
@@ -114,24 +116,24 @@ of-piece l f c at e =
     let q = both (eqb c (portion l f)) _ (p .1) in
     record { within = ltb-true _ _ (p .0); part = eqb-true _ _ (q .0); limit = leb-true _ _ (q .1) }
 
-pub own-by : (m : Method) (n l k : ℕ) (at : FrameCount) (x : Op) → 1 ≤ n → n ≤ mostTracks → standsAt m n l k at x ≡ true → Makes n x at
-own-by m n l k at GetConfiguration a b e = tt
-own-by m n l k at ReadDiscInformation a b e = tt
-own-by m n l k at (ReadTrackInformation t) a b e = tt
-own-by m n l k at (ModeSelect t) a b e = tt
-own-by m n l k at SendCueSheet a b e = (a, b)
-own-by m n l k at (Write t f c) a b e =
+pub own-by : (m : Method) (u : Recipe) (n l k : ℕ) (at : FrameCount) (x : Op) → 1 ≤ n → n ≤ mostTracks → standsAt m u n l k at x ≡ true → Makes n x at
+own-by m u n l k at GetConfiguration a b e = tt
+own-by m u n l k at ReadDiscInformation a b e = tt
+own-by m u n l k at (ReadTrackInformation t) a b e = tt
+own-by m u n l k at (ModeSelect t) a b e = tt
+own-by m u n l k at SendCueSheet a b e = (a, b)
+own-by m u n l k at (Write t f c) a b e =
     let w = of-piece l (f .0) (c .0) at (both (inPiece m n k (t .0)) _ e .1) in
     let g = w .within in
     let p = w .part in
     let h = w .limit in
     (omega arith, (omega arith, omega arith))
-own-by m n l k at (SynchronizeCache t) a b e = tt
-own-by m n l k at (CloseTrack t) a b e = tt
-own-by m n l k at CloseSession a b e = tt
-own-by m n l k at Blank a b e = tt
-own-by m n l k at TestUnitReady a b e = tt
-own-by m n l k at RequestSense a b e = tt
+own-by m u n l k at (SynchronizeCache t) a b e = tt
+own-by m u n l k at (CloseTrack t) a b e = tt
+own-by m u n l k at CloseSession a b e = tt
+own-by m u n l k at Blank a b e = tt
+own-by m u n l k at TestUnitReady a b e = tt
+own-by m u n l k at RequestSense a b e = tt
 
 -- a WRITE that begins in time, or what comes after a piece
 on-by : (m : Method) (n l k t f : ℕ) (at : FrameCount) → at .0 ≤ lastFrame → (m ≡ Sao → t < n → 0 < k) → Makes n (beforeBlock m n l k t f) at
@@ -180,71 +182,75 @@ MakesThen n (Then x) at = Makes n x at
 MakesThen n Nothing at = Unit {0}
 
 module _ (n k : ℕ) (v : Seen) (a : 1 ≤ n) (b : n ≤ mostTracks) where
+  -- after a track nothing is needed
+  on-track : (t : ℕ) (at : FrameCount) → Makes n (afterTrack n t) at
+  unfolding afterTrack
+  on-track t at = go (ltb t n)
+    where
+      go : (c : Bool) → Makes n (if c (ReadTrackInformation (record { 0 = suc t })) CloseSession) at
+      go true = tt
+      go false = tt
+
+  on-synchronized : (u : Recipe) (t : ℕ) (at : FrameCount) → MakesThen n (afterSynchronize Tao u n t) at
+  on-synchronized Old t at = tt
+  on-synchronized New t at = on-track t at
+
   -- the reply is not read
-  pub on-unread : (m : Method) (l : ℕ) (x : Op) → (x ≡ SendCueSheet → 0 < l) → standsAt m n l k (v .at) x ≡ true → isAsking x ≡ false → MakesThen n (opAfter m n l k x) (see m x Unread v .at)
-  unfolding afterCloseTrack inTime
-  on-unread m l GetConfiguration p e q = tt
-  on-unread m l ReadDiscInformation p e q = tt
-  on-unread m l (ReadTrackInformation t) p e q = tt
-  on-unread Tao l (ModeSelect t) p e q =
+  pub on-unread : (m : Method) (u : Recipe) (l : ℕ) (x : Op) → (x ≡ SendCueSheet → 0 < l) → standsAt m u n l k (v .at) x ≡ true → isAsking x ≡ false → MakesThen n (opAfter m u n l k x) (see m x Unread v .at)
+  unfolding inTime
+  on-unread m u l GetConfiguration p e q = tt
+  on-unread m u l ReadDiscInformation p e q = tt
+  on-unread m u l (ReadTrackInformation t) p e q = tt
+  on-unread Tao u l (ModeSelect t) p e q =
       let h : v .at .0 + l ≤ lastFrame = leb-true _ _ (both (inOrder n (t .0)) _ e .1) in
       on-by Tao n l k (t .0) 0 (v .at) (omega arith) (λ s g. clash (cc))
-  on-unread Sao l (ModeSelect t) p e q = (a, b)
-  on-unread m l SendCueSheet p e q =
+  on-unread Sao u l (ModeSelect t) p e q = (a, b)
+  on-unread m u l SendCueSheet p e q =
       let h : v .at .0 + l ≤ lastFrame = leb-true _ _ (both (not (stepwise m)) (leb (v .at .0 + l) lastFrame) e .1) in
       let w : 0 < l = p refl in
       subst (λ (y : Op). Makes n y (v .at)) (sym (block-due m n l k 0 0 w)) (omega arith, (omega arith, omega arith))
-  on-unread m l (Write t f c) p e q =
+  on-unread m u l (Write t f c) p e q =
       let i = both (inPiece m n k (t .0)) _ e in
       let w = of-piece l (f .0) (c .0) (v .at) (i .1) in
       let g = w .within in
       let y = w .part in
       let h = w .limit in
       on-by m n l k (t .0) (f .0 + c .0) (see m (Write t f c) Unread v .at) (omega arith) (next-piece m n k (t .0) (i .0))
-  on-unread Tao l (SynchronizeCache t) p e q = tt
-  on-unread Sao l (SynchronizeCache t) p e q = tt
-  on-unread m l (CloseTrack t) p e q = go (ltb (t .0) n)
-    where
-      go : (c : Bool) → Makes n (if c (ReadTrackInformation (record { 0 = suc (t .0) })) CloseSession) (v .at)
-      go true = tt
-      go false = tt
-  on-unread m l CloseSession p e q = tt
-  on-unread m l Blank p e q = tt
-  on-unread m l TestUnitReady p e q = absurd (false-true e)
-  on-unread m l RequestSense p e q = absurd (false-true e)
+  on-unread Tao u l (SynchronizeCache t) p e q = on-synchronized u (t .0) (v .at)
+  on-unread Sao u l (SynchronizeCache t) p e q = tt
+  on-unread m u l (CloseTrack t) p e q = on-track (t .0) (v .at)
+  on-unread m u l CloseSession p e q = tt
+  on-unread m u l Blank p e q = tt
+  on-unread m u l TestUnitReady p e q = absurd (false-true e)
+  on-unread m u l RequestSense p e q = absurd (false-true e)
 
   -- after an asking operation nothing is needed
-  pub on-asking : (m : Method) (l : ℕ) (x : Op) (at : FrameCount) → isAsking x ≡ true → MakesThen n (opAfter m n l k x) at
-  on-asking m l GetConfiguration at q = tt
-  on-asking m l ReadDiscInformation at q = tt
-  on-asking m l (ReadTrackInformation t) at q = tt
-  on-asking m l (ModeSelect t) at q = absurd (false-true q)
-  on-asking m l SendCueSheet at q = absurd (false-true q)
-  on-asking m l (Write t f c) at q = absurd (false-true q)
-  on-asking m l (SynchronizeCache t) at q = absurd (false-true q)
-  on-asking m l (CloseTrack t) at q = absurd (false-true q)
-  on-asking m l CloseSession at q = absurd (false-true q)
-  on-asking m l Blank at q = absurd (false-true q)
-  on-asking m l TestUnitReady at q = absurd (false-true q)
-  on-asking m l RequestSense at q = tt
+  pub on-asking : (m : Method) (u : Recipe) (l : ℕ) (x : Op) (at : FrameCount) → isAsking x ≡ true → MakesThen n (opAfter m u n l k x) at
+  on-asking m u l GetConfiguration at q = tt
+  on-asking m u l ReadDiscInformation at q = tt
+  on-asking m u l (ReadTrackInformation t) at q = tt
+  on-asking m u l (ModeSelect t) at q = absurd (false-true q)
+  on-asking m u l SendCueSheet at q = absurd (false-true q)
+  on-asking m u l (Write t f c) at q = absurd (false-true q)
+  on-asking m u l (SynchronizeCache t) at q = absurd (false-true q)
+  on-asking m u l (CloseTrack t) at q = absurd (false-true q)
+  on-asking m u l CloseSession at q = absurd (false-true q)
+  on-asking m u l Blank at q = absurd (false-true q)
+  on-asking m u l TestUnitReady at q = absurd (false-true q)
+  on-asking m u l RequestSense at q = tt
 
   -- nor after one that takes Immed, wherever the next block goes
-  pub on-closed : (m : Method) (l : ℕ) (x : Op) (at : FrameCount) → takesImmed x ≡ true → MakesThen n (opAfter m n l k x) at
-  unfolding afterCloseTrack
-  on-closed m l GetConfiguration at q = absurd (false-true q)
-  on-closed m l ReadDiscInformation at q = absurd (false-true q)
-  on-closed m l (ReadTrackInformation t) at q = absurd (false-true q)
-  on-closed m l (ModeSelect t) at q = absurd (false-true q)
-  on-closed m l SendCueSheet at q = absurd (false-true q)
-  on-closed m l (Write t f c) at q = absurd (false-true q)
-  on-closed Tao l (SynchronizeCache t) at q = tt
-  on-closed Sao l (SynchronizeCache t) at q = tt
-  on-closed m l (CloseTrack t) at q = go (ltb (t .0) n)
-    where
-      go : (c : Bool) → Makes n (if c (ReadTrackInformation (record { 0 = suc (t .0) })) CloseSession) at
-      go true = tt
-      go false = tt
-  on-closed m l CloseSession at q = tt
-  on-closed m l Blank at q = tt
-  on-closed m l TestUnitReady at q = absurd (false-true q)
-  on-closed m l RequestSense at q = absurd (false-true q)
+  pub on-closed : (m : Method) (u : Recipe) (l : ℕ) (x : Op) (at : FrameCount) → takesImmed x ≡ true → MakesThen n (opAfter m u n l k x) at
+  on-closed m u l GetConfiguration at q = absurd (false-true q)
+  on-closed m u l ReadDiscInformation at q = absurd (false-true q)
+  on-closed m u l (ReadTrackInformation t) at q = absurd (false-true q)
+  on-closed m u l (ModeSelect t) at q = absurd (false-true q)
+  on-closed m u l SendCueSheet at q = absurd (false-true q)
+  on-closed m u l (Write t f c) at q = absurd (false-true q)
+  on-closed Tao u l (SynchronizeCache t) at q = on-synchronized u (t .0) at
+  on-closed Sao u l (SynchronizeCache t) at q = tt
+  on-closed m u l (CloseTrack t) at q = on-track (t .0) at
+  on-closed m u l CloseSession at q = tt
+  on-closed m u l Blank at q = tt
+  on-closed m u l TestUnitReady at q = absurd (false-true q)
+  on-closed m u l RequestSense at q = absurd (false-true q)

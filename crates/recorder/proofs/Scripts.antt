@@ -12,15 +12,17 @@ use Rattle.mmc.specs.declared.order.Order.{Order}
 use Rattle.mmc.specs.declared.order.Track.{Track}
 use Rattle.mmc.specs.declared.order.Method.{Method}
 use Rattle.mmc.specs.declared.order.Method.the-variants.{Tao, Sao}
+use Rattle.mmc.specs.declared.order.Recipe.{Recipe}
+use Rattle.mmc.specs.declared.order.Recipe.the-variants.{Old, New}
 use Rattle.recorder.specs.declared.script.Op.{Op}
 use Rattle.recorder.specs.declared.script.Op.the-variants.{GetConfiguration, ReadDiscInformation, ReadTrackInformation, ModeSelect, SendCueSheet, SynchronizeCache, CloseTrack}
-use Rattle.recorder.specs.Script.{code, isErasing, gather, portion, writesFor, writes, writesFrom, beforeTracks, eachTrack, script, writesIn, expectedBy, expected, Block, blocks, blocksFrom, ordered, blocksIn}
+use Rattle.recorder.specs.Script.{code, isErasing, gather, portion, writesFor, writes, writesFrom, closeBy, beforeTracks, eachTrack, script, writesIn, expectedBy, expected, Block, blocks, blocksFrom, ordered, blocksIn}
 use Rattle.recorder.proofs.Lists.{gather-append, blocks-split}
 use Rattle.recorder.proofs.Plans.{Unclosed, Scripted, Calm, scripted-before}
 
 -- the order with a method: its own gives it back
 abbrev pub by : Order → Method → Order
-by o m = record { method = m; keep = o .keep; protect = o .protect; immed = o .immed; erase = o .erase; count = o .count; tracks = o .tracks }
+by o m = record { method = m; keep = o .keep; protect = o .protect; immed = o .immed; erase = o .erase; recipe = o .recipe; count = o .count; tracks = o .tracks }
 
 -- ---- length
 
@@ -34,10 +36,24 @@ all-length t l after =
     let b : length (writesFrom t l 0) ≡ writesFor (l - 0) = writes-length t l 0 (writesFor (l - 0)) in
     omega arith
 
-tao-length : (o : Order) (t : ℕ) (xs : List Track) → length (eachTrack (by o Tao) t xs) ≡ 4 * length xs + 1 + writesIn xs
-tao-length o t [] = refl
+-- how many 5Bh function 1 close n tracks
+abbrev closesOf : Recipe → ℕ → ℕ
+closesOf Old n = n
+closesOf New n = 0
+
+closes-one : (q : Recipe) (t n : ℕ) (l : List Op) → length (closeBy q t l) + closesOf q n ≡ length l + closesOf q (suc n)
+closes-one Old t n l = omega arith
+closes-one New t n l = refl
+
+tao-length : (o : Order) (t : ℕ) (xs : List Track) → length (eachTrack (by o Tao) t xs) ≡ 3 * length xs + closesOf (o .recipe) (length xs) + 1 + writesIn xs
+tao-length o t [] = go (o .recipe)
+  where
+    go : (q : Recipe) → 1 ≡ 0 + closesOf q 0 + 1 + 0
+    go Old = refl
+    go New = refl
 tao-length o t (x ∷ xs) =
-    let a = all-length (suc t) (x .length .0) (SynchronizeCache (record { 0 = suc t }) ∷ CloseTrack (record { 0 = suc t }) ∷ eachTrack (by o Tao) (suc t) xs) in
+    let a = all-length (suc t) (x .length .0) (SynchronizeCache (record { 0 = suc t }) ∷ closeBy (o .recipe) (suc t) (eachTrack (by o Tao) (suc t) xs)) in
+    let c = closes-one (o .recipe) (suc t) (length xs) (eachTrack (by o Tao) (suc t) xs) in
     let i = tao-length o (suc t) xs in
     omega arith
 
@@ -51,8 +67,12 @@ sao-length o t (x ∷ xs) =
 pub script-length : (o : Order) → length (tracksIn o) ≡ o .count → length (script o) ≡ expected o
 script-length o n = go (o .method)
   where
-    go : (m : Method) → length (script (by o m)) ≡ expectedBy m (o .count) (writesIn (tracksIn o))
-    go Tao = let b = tao-length o 0 (tracksIn o) in omega arith
+    tao : (q : Recipe) → 3 * o .count + closesOf q (o .count) + 3 + writesIn (tracksIn o) ≡ expectedBy Tao q (o .count) (writesIn (tracksIn o))
+    tao Old = omega arith
+    tao New = omega arith
+
+    go : (m : Method) → length (script (by o m)) ≡ expectedBy m (o .recipe) (o .count) (writesIn (tracksIn o))
+    go Tao = let b = tao-length o 0 (tracksIn o) in let c = tao (o .recipe) in let k = ap (closesOf (o .recipe)) n in omega arith
     go Sao = let a = all-length 0 leadFrames (eachTrack (by o Sao) 0 (tracksIn o)) in let b = sao-length o 0 (tracksIn o) in omega arith
 
 -- ---- blocks
@@ -80,10 +100,15 @@ track-blocks t l ys zs e =
     part (writesFrom (suc t) l 0) ys _ (writes-blocks t l 0 (writesFor (l - 0)) refl ∙ ap (λ (m : ℕ). blocks (suc t) 0 m) z) ∙
     ap (λ (m : List Block). blocks (suc t) 0 l ++ m) e
 
+-- 5Bh records none
+close-blocks : (q : Recipe) (t : ℕ) (l : List Op) → gather blocksIn (closeBy q t l) ≡ gather blocksIn l
+close-blocks Old t l = refl
+close-blocks New t l = refl
+
 pub each-blocks : (m : Method) (o : Order) (t : ℕ) (xs : List Track) → gather blocksIn (eachTrack (by o m) t xs) ≡ blocksFrom t xs
 each-blocks Tao o t [] = refl
 each-blocks Sao o t [] = refl
-each-blocks Tao o t (x ∷ xs) = track-blocks t (x .length .0) _ _ (each-blocks Tao o (suc t) xs)
+each-blocks Tao o t (x ∷ xs) = track-blocks t (x .length .0) _ _ (close-blocks (o .recipe) (suc t) _ ∙ each-blocks Tao o (suc t) xs)
 each-blocks Sao o t (x ∷ xs) = track-blocks t (x .length .0) _ _ (each-blocks Sao o (suc t) xs)
 
 pub script-blocks : (o : Order) → gather blocksIn (script o) ≡ ordered o
@@ -113,10 +138,14 @@ writes-past t l f (suc k) = (refl, writes-past t l (f + portion l f) k)
 track-past : (t l : ℕ) (after : List Op) → Past after → Past (writesFrom t l 0 ++ after)
 track-past t l after p = past-before (writesFrom t l 0) after (writes-past t l 0 (writesFor (l - 0))) p
 
+close-past : (q : Recipe) (t : ℕ) (l : List Op) → Past l → Past (closeBy q t l)
+close-past Old t l p = (refl, p)
+close-past New t l p = p
+
 each-past : (m : Method) (o : Order) (t : ℕ) (xs : List Track) → Past (eachTrack (by o m) t xs)
 each-past Tao o t [] = (refl, tt)
 each-past Sao o t [] = (refl, tt)
-each-past Tao o t (x ∷ xs) = (refl, (refl, track-past (suc t) (x .length .0) _ (refl, (refl, each-past Tao o (suc t) xs))))
+each-past Tao o t (x ∷ xs) = (refl, (refl, track-past (suc t) (x .length .0) _ (refl, close-past (o .recipe) (suc t) _ (each-past Tao o (suc t) xs))))
 each-past Sao o t (x ∷ xs) = track-past (suc t) (x .length .0) _ (each-past Sao o (suc t) xs)
 
 pub script-past : (o : Order) → Past (beforeTracks o (eachTrack o 0 (tracksIn o)))
@@ -146,20 +175,24 @@ writes-calm t l f (suc k) = (refl, writes-calm t l (f + portion l f) k)
 all-calm : (t l : ℕ) → Calm (writesFrom t l 0)
 all-calm t l = writes-calm t l 0 (writesFor (l - 0))
 
--- 35h and 5Bh function 1
-closes-track : (t : ℕ) (l : List Op) → Closes l → Closes (SynchronizeCache (record { 0 = t }) ∷ CloseTrack (record { 0 = t }) ∷ l)
-closes-track t l c =
+-- 35h, and by the old recipe 5Bh function 1
+closes-track : (q : Recipe) (t : ℕ) (l : List Op) → Closes l → Closes (SynchronizeCache (record { 0 = t }) ∷ closeBy q t l)
+closes-track Old t l c =
     let s = c .some in
     let a : Unclosed (CloseTrack (record { 0 = t }) ∷ l) = omega arith in
     let b : Unclosed (SynchronizeCache (record { 0 = t }) ∷ CloseTrack (record { 0 = t }) ∷ l) = omega arith in
     record { some = b; all = (b, (refl, (a, (refl, c .all)))) }
+closes-track New t l c =
+    let s = c .some in
+    let b : Unclosed (SynchronizeCache (record { 0 = t }) ∷ l) = omega arith in
+    record { some = b; all = (b, (refl, c .all)) }
 
 each-closes : (m : Method) (o : Order) (t : ℕ) (xs : List Track) → Closes (eachTrack (by o m) t xs)
 each-closes Tao o t [] = record { some = one; all = (one, (refl, tt)) }
 each-closes Sao o t [] = record { some = one; all = (one, (refl, tt)) }
 each-closes Tao o t (x ∷ xs) =
     closes-before (ReadTrackInformation (record { 0 = suc t }) ∷ ModeSelect (record { 0 = suc t }) ∷ writesFrom (suc t) (x .length .0) 0) _ (refl, (refl, all-calm (suc t) (x .length .0)))
-    (closes-track (suc t) _ (each-closes Tao o (suc t) xs))
+    (closes-track (o .recipe) (suc t) _ (each-closes Tao o (suc t) xs))
 each-closes Sao o t (x ∷ xs) = closes-before (writesFrom (suc t) (x .length .0) 0) _ (all-calm (suc t) (x .length .0)) (each-closes Sao o (suc t) xs)
 
 pub scripted : (o : Order) → Scripted (script o)

@@ -9,12 +9,14 @@ use lib.Dec.{ltb, leb}
 use lib.ListN.{length, getD, drop}
 use lib.Seq.{drop-cons}
 use Rattle.basics.specs.Bytes.{if}
-use Rattle.mmc.specs.Order.{leastBlocks, noTrack, tracksIn, allLong, blocksOf, mixedOrKept}
+use Rattle.mmc.specs.Order.{isNew, leastBlocks, noTrack, tracksIn, allLong, blocksOf, mixedOrKept}
 use Rattle.mmc.specs.Times.{lastAddress, leadFrames, framesTo}
 use Rattle.mmc.specs.declared.order.Order.{Order}
 use Rattle.mmc.specs.declared.order.Track.{Track}
 use Rattle.mmc.specs.declared.order.Method.{Method}
 use Rattle.mmc.specs.declared.order.Method.the-variants.{Tao, Sao}
+use Rattle.mmc.specs.declared.order.Recipe.{Recipe}
+use Rattle.mmc.specs.declared.order.Recipe.the-variants.{Old, New}
 use Rattle.recorder.specs.declared.script.Op.{Op}
 use Rattle.recorder.specs.declared.script.Op.the-variants.{GetConfiguration, ReadDiscInformation, ReadTrackInformation, ModeSelect, SendCueSheet, Write, SynchronizeCache, CloseTrack, CloseSession, Blank, TestUnitReady, RequestSense}
 use Rattle.recorder.specs.declared.places.Following.{Following}
@@ -26,7 +28,7 @@ use Rattle.recorder.specs.declared.exchanges.Seen.{Seen}
 use Rattle.recorder.specs.Script.{takesImmed, write, portion}
 use Rattle.recorder.specs.Exchanges.{Named, see, name}
 use Rattle.recorder.specs.Rules.{still, needed, leadOut, lastFrame, fits, trackTests, judge, none, refusedBy}
-use Rattle.recorder.specs.Places.{pieceEnded, beforeBlock, afterCloseTrack, pieceOf, afterIn}
+use Rattle.recorder.specs.Places.{pieceEnded, beforeBlock, afterTrack, afterSynchronize, pieceOf, afterIn}
 use Rattle.recorder.proofs.Lists.{none-found, false-true, both, passed-clear}
 use Rattle.recorder.proofs.Turns.{isAsking, Reads, malformed, profile, status, information, indication, ready, unread}
 use Rattle.recorder.proofs.Scripts.{by}
@@ -98,7 +100,7 @@ Standing Sao o SendCueSheet v n = InSession o × (v .at .0 ≡ 0)
 Standing Tao o (Write t f c) v n = InTrack o (t .0) n × (IsWrite (pieceOf o (t .0)) (f .0) (c .0) × (v .at .0 ≡ n .start + f .0))
 Standing Sao o (Write t f c) v n = InSession o × (IsWrite (pieceOf o (t .0)) (f .0) (c .0) × InPiece o (t .0) (f .0) v)
 Standing m o (SynchronizeCache t) v n = InOrder o (t .0)
-Standing Tao o (CloseTrack t) v n = InOrder o (t .0)
+Standing Tao o (CloseTrack t) v n = (isNew (o .recipe) ≡ false) × InOrder o (t .0)
 Standing Sao o (CloseTrack t) v n = ⊥
 Standing Tao o CloseSession v n = Unit {0}
 Standing Sao o CloseSession v n = ⊥
@@ -179,13 +181,18 @@ Early o x = isLater x ≡ true → o .erase ≡ true → Recordable o
 
 -- ---- the next operation
 
-after-closed : (o : Order) (t : ℕ) (v : Seen) (n : Named) → Standing Tao (by o Tao) (afterCloseTrack (o .count) t) v n
-unfolding afterCloseTrack
+after-closed : (o : Order) (t : ℕ) (v : Seen) (n : Named) → Standing Tao (by o Tao) (afterTrack (o .count) t) v n
+unfolding afterTrack
 after-closed o t v n = go (ltb t (o .count)) refl
   where
     go : (b : Bool) → ltb t (o .count) ≡ b → Standing Tao (by o Tao) (if b (ReadTrackInformation (record { 0 = suc t })) CloseSession) v n
     go true q = record { one = omega arith; few = ltb-true _ _ q }
     go false q = tt
+
+-- after 35h, by the recipe
+synchronized : (q : Recipe) (o : Order) (t : ℕ) (v : Seen) (n : Named) → o .recipe ≡ q → InOrder (by o Tao) t → StandingThen Tao (by o Tao) (afterSynchronize Tao q (o .count) t) v n
+synchronized Old o t v n e s = (ap isNew e, s)
+synchronized New o t v n e s = after-closed o t v n
 
 first-track : (m : Method) (o : Order) (v : Seen) (n : Named) → Sized o → v .at .0 ≡ 0 → Standing m (by o m) (ReadTrackInformation (record { 0 = 1 })) v n
 first-track Tao o v n z s = record { one = omega arith; few = z .some }
@@ -216,7 +223,7 @@ stood-closing m o (ReadTrackInformation t) v w n k s c e = absurd (false-true c)
 stood-closing m o (ModeSelect t) v w n k s c e = absurd (false-true c)
 stood-closing m o SendCueSheet v w n k s c e = absurd (false-true c)
 stood-closing m o (Write t f d) v w n k s c e = absurd (false-true c)
-stood-closing Tao o (SynchronizeCache t) v w n k s c e = s
+stood-closing Tao o (SynchronizeCache t) v w n k s c e = synchronized (o .recipe) o (t .0) w k refl s
 stood-closing Sao o (SynchronizeCache t) v w n k s c e = tt
 stood-closing Tao o (CloseTrack t) v w n k s c e = after-closed o (t .0) w k
 stood-closing Sao o (CloseTrack t) v w n k s c e = absurd s

@@ -1,7 +1,7 @@
 -- What an operation that is due gives: the state passes the recorder's own test, a WRITE of a track at once is fresh, and the mode data
 -- and the cue sheet that go with a command are made.
 use mathlib.Core.Path.{_≡_, refl, sym, ap, subst, _∙_}
-use mathlib.Core.Bool.{Bool, true, false, _&&_}
+use mathlib.Core.Bool.{Bool, true, false, not, _&&_}
 use mathlib.Core.List.{List, [], _∷_}
 use Prim.Native.Nat.{ℕ, suc, _+_, _-_, _*_, _≤_, _<_}
 use lib.IntN.{pos}
@@ -37,7 +37,7 @@ use Rattle.recorder.specs.Job.{dueAt, commandOf, latestProgress, inOrder
 use Rattle.recorder.specs.History.{Accompanied, FreshWrite}
 use Rattle.recorder.proofs.Lists.{if-yes, if-no, false-true, neither, frames-back, clash}
 use Rattle.recorder.proofs.Scripts.{by}
-use Rattle.recorder.proofs.Behind.{Sized, sized-by}
+use Rattle.recorder.proofs.Behind.{Sized}
 use Rattle.recorder.proofs.Standing.{blocks-less, long-at, InOrder, InSession, IsWrite, Standing}
 use Rattle.recorder.proofs.Moves.{at, PolledAt, Stood}
 
@@ -82,7 +82,7 @@ first-fits o z i =
     let l = i .limit in
     omega arith
 
-stands-by : (m : Method) (o : Order) (x : Op) (v : Seen) (n : Named) → Sized o → Standing m (by o m) x v n → standsAt m (o .count) (pieceOf (by o m) (trackIn x)) (pieceOf (by o m) (suc (trackIn x))) (v .at) x ≡ true
+stands-by : (m : Method) (o : Order) (x : Op) (v : Seen) (n : Named) → Sized (by o m) → Standing m (by o m) x v n → standsAt m (o .recipe) (o .count) (pieceOf (by o m) (trackIn x)) (pieceOf (by o m) (suc (trackIn x))) (v .at) x ≡ true
 unfolding inPiece
 stands-by m o GetConfiguration v n z s = refl
 stands-by m o ReadDiscInformation v n z s = refl
@@ -96,7 +96,7 @@ stands-by Sao o (ModeSelect t) v n z s =
     let e = s .1 .0 in
     let a = s .1 .1 in
     let h = z .some in
-    let f = first-fits (by o Sao) (sized-by Sao o z) (s .0) in
+    let f = first-fits (by o Sao) z (s .0) in
     let l : pieceOf (by o Sao) (t .0) ≡ pieceOf (by o Sao) 1 = ap (pieceOf (by o Sao)) e in
     two _ _ (order-so (by o Sao) (t .0) (record { one = omega arith; few = omega arith })) (time-so _ (v .at) (omega arith))
 stands-by Tao o SendCueSheet v n z s = absurd s
@@ -109,9 +109,9 @@ stands-by Tao o (Write t f c) v n z s =
 stands-by Sao o (Write t f c) v n z s =
     let l = s .0 .limit in
     let e = s .1 .1 .fills in
-    two _ _ (piece-so (by o Sao) (t .0) (sized-by Sao o z) (s .0) (s .1 .1 .few)) (write-so _ (f .0) (c .0) (v .at) (s .1 .0) (omega arith))
+    two _ _ (piece-so (by o Sao) (t .0) z (s .0) (s .1 .1 .few)) (write-so _ (f .0) (c .0) (v .at) (s .1 .0) (omega arith))
 stands-by m o (SynchronizeCache t) v n z s = order-so (by o m) (t .0) s
-stands-by Tao o (CloseTrack t) v n z s = order-so (by o Tao) (t .0) s
+stands-by Tao o (CloseTrack t) v n z s = two _ _ (ap not (s .0)) (order-so (by o Tao) (t .0) (s .1))
 stands-by Sao o (CloseTrack t) v n z s = absurd s
 stands-by Tao o CloseSession v n z s = refl
 stands-by Sao o CloseSession v n z s = absurd s
@@ -201,20 +201,20 @@ not-kept : (o : Order) → InSession (by o Sao) → o .keep ≡ false
 unfolding mixedOrKept
 not-kept o i = neither (o .keep) _ (i .alike) .0
 
-accompanied-by : (m : Method) (o : Order) (x : Op) (v : Seen) (n : Named) → Sized o → Standing m (by o m) x v n → Accompanied (by o m) x
+accompanied-by : (m : Method) (o : Order) (x : Op) (v : Seen) (n : Named) → Sized (by o m) → Standing m (by o m) x v n → Accompanied (by o m) x
 accompanied-by m o x v n z s =
     record {
-      page = λ t e. (_, page-so (by o m) _ (sized-by m o z .valid) (kept m t (subst (λ (y : Op). Standing m (by o m) y v n) e s)));
-      sheet = λ e. sheet m (subst (λ (y : Op). Standing m (by o m) y v n) e s);
+      page = λ t e. (_, page-so (by o m) _ (z .valid) (kept m t (subst (λ (y : Op). Standing m (by o m) y v n) e s)));
+      sheet = λ e. sheet m z (subst (λ (y : Op). Standing m (by o m) y v n) e s);
     }
   where
     kept : (m : Method) (t : TrackNumber) → Standing m (by o m) (ModeSelect t) v n → keepsSao (by o m) ≡ false
     kept Tao t s = refl
     kept Sao t s = not-kept o (s .0)
 
-    sheet : (m : Method) → Standing m (by o m) SendCueSheet v n → (bytes : List ℕ) × ((cueSheet (by o m) ≡ pass bytes) × (length bytes ≡ sheetBytes (o .count)))
-    sheet Tao s = absurd s
-    sheet Sao s = (sheetOf (by o Sao), (sheet-so o (sized-by Sao o z .valid) (s .0), sheet-length (by o Sao) (z .all)))
+    sheet : (m : Method) → Sized (by o m) → Standing m (by o m) SendCueSheet v n → (bytes : List ℕ) × ((cueSheet (by o m) ≡ pass bytes) × (length bytes ≡ sheetBytes (o .count)))
+    sheet Tao z s = absurd s
+    sheet Sao z s = (sheetOf (by o Sao), (sheet-so o (z .valid) (s .0), sheet-length (by o Sao) (z .all)))
 
 accompanied-at : (o : Order) (x : Op) (p : Poll) (v : Seen) (n : Named) → Sized o → Standing (o .method) o x v n → Accompanied o (dueAt x p)
 accompanied-at o x Off v n z s = accompanied-by (o .method) o x v n z s

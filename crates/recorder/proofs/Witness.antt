@@ -19,6 +19,8 @@ use Rattle.mmc.specs.declared.order.Order.{Order}
 use Rattle.mmc.specs.declared.order.Track.{Track}
 use Rattle.mmc.specs.declared.order.Method.{Method}
 use Rattle.mmc.specs.declared.order.Method.the-variants.{Tao, Sao}
+use Rattle.mmc.specs.declared.order.Recipe.{Recipe}
+use Rattle.mmc.specs.declared.order.Recipe.the-variants.{Old, New}
 use Rattle.recorder.specs.declared.script.Op.{Op}
 use Rattle.recorder.specs.declared.script.Op.the-variants.{GetConfiguration, ReadDiscInformation, ReadTrackInformation, ModeSelect, SendCueSheet, Write, SynchronizeCache, CloseTrack, CloseSession, Blank, TestUnitReady, RequestSense}
 use Rattle.recorder.specs.declared.places.Following.{Following}
@@ -32,10 +34,10 @@ use Rattle.recorder.specs.declared.replies.Reading.the-variants.{Malform
 use Rattle.recorder.specs.declared.exchanges.Seen.{Seen}
 use Rattle.recorder.specs.Answers.{Ruling}
 use Rattle.recorder.specs.Replies.{wholeProfile, readProfile, wholeDisc, discOf, readDisc, wholeInformation, informationOf, readInformation, progressOf, readProgress, reading}
-use Rattle.recorder.specs.Script.{code, trackIn, isErasing, takesImmed, isPolled, gather, write, portion, writesFor, writes, writesFrom, eachTrack, blocks, blocksFrom, blocksIn, script}
+use Rattle.recorder.specs.Script.{closeBy, code, trackIn, isErasing, takesImmed, isPolled, gather, write, portion, writesFor, writes, writesFrom, eachTrack, blocks, blocksFrom, blocksIn, script}
 use Rattle.recorder.specs.Exchanges.{Exchange, Named, see, seen, name, named}
 use Rattle.recorder.specs.Rules.{otherProfile, lastStatus, unsuitable, unusable, toCome, still, charge, needed, leadOut, lastFrame, fits, tooLong, used, notErasable, tested, erasingTests, blankTests, discTests, erases, erasingIf, openingTests, laterTests, Judgement, onward, trackTests, pollsIf, judge, judged, move, left, none, refusedBy, firstRefused, ruled, exchanged, play}
-use Rattle.recorder.specs.Places.{pieceEnded, beforeBlock, afterCloseTrack, opAfter, pieceOf, afterIn}
+use Rattle.recorder.specs.Places.{pieceEnded, beforeBlock, afterTrack, opAfter, pieceOf, afterIn}
 use Rattle.recorder.specs.Job.{dueAt}
 use Rattle.recorder.specs.History.{informationsIn, informations, driveGap, Follows, AllMarkedGood, Bytes, AllBytes, discsIn, discs, Passing, Recordable, Suitable}
 use Rattle.recorder.proofs.Lists.{if-yes, if-no, false-true, both, neither, Clear, clear-passes, nothing-after, blocks-length}
@@ -165,15 +167,19 @@ writes-gaps : (t l f k : ℕ) (m : List Op) → gaps (writes t l f k ++ m) ≡ g
 writes-gaps t l f zero m = refl
 writes-gaps t l f (suc k) m = writes-gaps t l (f + portion l f) k m
 
+close-gaps : (q : Recipe) (t : ℕ) (l : List Op) → gaps (closeBy q t l) ≡ gaps l
+close-gaps Old t l = refl
+close-gaps New t l = refl
+
 each-gaps : (o : Order) (t : ℕ) (xs : List Track) → gaps (eachTrack (by o Tao) (suc t) xs) ≡ length xs
 each-gaps o t [] = refl
-each-gaps o t (x ∷ xs) = ap (λ (b : Bool). length (if b (ReadTrackInformation u ∷ []) [] ++ gather laterIn (writesFrom (u .0) (x .length .0) 0 ++ rest))) (lt-ltb 1 (u .0) (omega arith)) ∙ ap suc (writes-gaps (u .0) (x .length .0) 0 (writesFor (x .length .0 - 0)) rest ∙ each-gaps o (suc t) xs)
+each-gaps o t (x ∷ xs) = ap (λ (b : Bool). length (if b (ReadTrackInformation u ∷ []) [] ++ gather laterIn (writesFrom (u .0) (x .length .0) 0 ++ rest))) (lt-ltb 1 (u .0) (omega arith)) ∙ ap suc (writes-gaps (u .0) (x .length .0) 0 (writesFor (x .length .0 - 0)) rest ∙ close-gaps (o .recipe) (u .0) _ ∙ each-gaps o (suc t) xs)
   where
     u : TrackNumber
     u = record { 0 = suc (suc t) }
 
     rest : List Op
-    rest = SynchronizeCache u ∷ CloseTrack u ∷ eachTrack (by o Tao) (suc (suc t)) xs
+    rest = SynchronizeCache u ∷ closeBy (o .recipe) (u .0) (eachTrack (by o Tao) (suc (suc t)) xs)
 
 -- behind a 52h in TAO
 behind-gaps : (o : Order) (t : ℕ) → gaps (behind (by o Tao) (ReadTrackInformation (record { 0 = suc t }))) ≡ length (toCome o (suc t)) - 1
@@ -181,7 +187,8 @@ behind-gaps o t =
     let a = length-drop (suc t - 1) (tracksIn o) in
     let b = length-drop (suc t) (tracksIn o) in
     let k : length (drop (suc t) (tracksIn o)) ≡ length (toCome o (suc t)) - 1 = omega arith in
-    writes-gaps (suc t) (pieceOf o (suc t)) 0 (writesFor (pieceOf o (suc t) - 0)) (SynchronizeCache (record { 0 = suc t }) ∷ CloseTrack (record { 0 = suc t }) ∷ tracksFrom (by o Tao) (suc t)) ∙
+    writes-gaps (suc t) (pieceOf o (suc t)) 0 (writesFor (pieceOf o (suc t) - 0)) (SynchronizeCache (record { 0 = suc t }) ∷ closeBy (o .recipe) (suc t) (tracksFrom (by o Tao) (suc t))) ∙
+    close-gaps (o .recipe) (suc t) _ ∙
     each-gaps o t (drop (suc t) (tracksIn o)) ∙
     k
 
@@ -271,26 +278,30 @@ block-plain m n l k t f = go (ltb f l)
     go true = refl
     go false = over m
 
-after-plain : (m : Method) (n l k : ℕ) (x : Op) → NotErasing (opAfter m n l k x)
-unfolding afterCloseTrack
-after-plain m n l k GetConfiguration = refl
-after-plain m n l k ReadDiscInformation = refl
-after-plain m n l k (ReadTrackInformation t) = refl
-after-plain Tao n l k (ModeSelect t) = block-plain Tao n l k (t .0) 0
-after-plain Sao n l k (ModeSelect t) = refl
-after-plain m n l k SendCueSheet = block-plain m n l k 0 0
-after-plain m n l k (Write t f c) = block-plain m n l k (t .0) (f .0 + c .0)
-after-plain Tao n l k (SynchronizeCache t) = refl
-after-plain Sao n l k (SynchronizeCache t) = tt
-after-plain m n l k (CloseTrack t) = go (ltb (t .0) n)
+track-plain : (n t : ℕ) → isErasing (afterTrack n t) ≡ false
+unfolding afterTrack
+track-plain n t = go (ltb t n)
   where
-    go : (b : Bool) → isErasing (if b (ReadTrackInformation (record { 0 = suc (t .0) })) CloseSession) ≡ false
+    go : (b : Bool) → isErasing (if b (ReadTrackInformation (record { 0 = suc t })) CloseSession) ≡ false
     go true = refl
     go false = refl
-after-plain m n l k CloseSession = tt
-after-plain m n l k Blank = refl
-after-plain m n l k TestUnitReady = tt
-after-plain m n l k RequestSense = tt
+
+after-plain : (m : Method) (u : Recipe) (n l k : ℕ) (x : Op) → NotErasing (opAfter m u n l k x)
+after-plain m u n l k GetConfiguration = refl
+after-plain m u n l k ReadDiscInformation = refl
+after-plain m u n l k (ReadTrackInformation t) = refl
+after-plain Tao u n l k (ModeSelect t) = block-plain Tao n l k (t .0) 0
+after-plain Sao u n l k (ModeSelect t) = refl
+after-plain m u n l k SendCueSheet = block-plain m n l k 0 0
+after-plain m u n l k (Write t f c) = block-plain m n l k (t .0) (f .0 + c .0)
+after-plain Tao Old n l k (SynchronizeCache t) = refl
+after-plain Tao New n l k (SynchronizeCache t) = track-plain n (t .0)
+after-plain Sao u n l k (SynchronizeCache t) = tt
+after-plain m u n l k (CloseTrack t) = track-plain n (t .0)
+after-plain m u n l k CloseSession = tt
+after-plain m u n l k Blank = refl
+after-plain m u n l k TestUnitReady = tt
+after-plain m u n l k RequestSense = tt
 
 module _ (o : Order) (z : Sized o) (ok : Recordable o) (p : ℕ) (d : DiscInformation) (su : Suitable o p d) where
   low-profile : p < 256
@@ -626,7 +637,7 @@ module _ (o : Order) (z : Sized o) (ok : Recordable o) (p : ℕ) (d : DiscInform
 
   -- to the operation behind one, or to the end
   behind-stage : (x : Op) (v w : Seen) (n k : Named) (ds : Discs) → Standing (o .method) o x v n → StandingThen (o .method) o (afterIn o x) w k → Known w ds → RoomBy (o .method) o (w .at) (behind o x) → Stage (weigh (behind o x)) (behind o x) w k ds
-  behind-stage x v w n k ds s h b r = go (afterIn o x) refl h (after-plain (o .method) (o .count) _ _ x)
+  behind-stage x v w n k ds s h b r = go (afterIn o x) refl h (after-plain (o .method) (o .recipe) (o .count) _ _ x)
     where
       on : (a : Following) → afterIn o x ≡ a → behind o x ≡ onto o a
       on a e = goes-on o x z (standing-goes (o .method) o x v n z s) ∙ ap (onto o) e

@@ -16,6 +16,8 @@ use Rattle.mmc.specs.declared.order.Kind.{Kind}
 use Rattle.mmc.specs.declared.order.Kind.the-variants.{Audio, Data}
 use Rattle.mmc.specs.declared.order.Method.{Method}
 use Rattle.mmc.specs.declared.order.Method.the-variants.{Tao, Sao}
+use Rattle.mmc.specs.declared.order.Recipe.{Recipe}
+use Rattle.mmc.specs.declared.order.Recipe.the-variants.{Old, New}
 use Rattle.recorder.specs.Answers.{drive-failed, done, number, bytesOf}
 use Rattle.recorder.specs.declared.script.Op.{Op}
 use Rattle.recorder.specs.declared.script.Op.the-variants.{ModeSelect, SendCueSheet, CloseSession, Blank, TestUnitReady, RequestSense}
@@ -31,7 +33,7 @@ abbrev pub track : Kind → ℕ → Track
 track k l = record { kind = k; length = record { 0 = l } }
 
 abbrev pub orderOf : Method → Bool → List Track → Order
-orderOf m keep ts = record { method = m; keep = keep; protect = false; immed = false; erase = false; count = length ts; tracks = ts ++ replicate (mostTracks - length ts) noTrack }
+orderOf m keep ts = record { method = m; keep = keep; protect = false; immed = false; erase = false; recipe = Old; count = length ts; tracks = ts ++ replicate (mostTracks - length ts) noTrack }
 
 -- tracks of a kind and of these lengths
 abbrev pub tracks : Kind → List ℕ → List Track
@@ -109,7 +111,7 @@ passes o x at = passesAt o x Off at
 -- ---- document 02: with flag bit 2
 
 abbrev pub immediate : Order → Order
-immediate o = record { method = o .method; keep = o .keep; protect = o .protect; immed = true; erase = o .erase; count = o .count; tracks = o .tracks }
+immediate o = record { method = o .method; keep = o .keep; protect = o .protect; immed = true; erase = o .erase; recipe = o .recipe; count = o .count; tracks = o .tracks }
 
 -- the exchanges of a track at once of 300 blocks whose 35h is answered good, and then these replies
 abbrev pub closing : List Reply → List Exchange
@@ -225,7 +227,7 @@ pub record PollSheets : Type 0 where
 -- ---- document 02: with flag bit 3
 
 abbrev pub flagged : Order → Order
-flagged o = record { method = o .method; keep = o .keep; protect = o .protect; immed = o .immed; erase = true; count = o .count; tracks = o .tracks }
+flagged o = record { method = o .method; keep = o .keep; protect = o .protect; immed = o .immed; erase = true; recipe = o .recipe; count = o .count; tracks = o .tracks }
 
 -- the exchanges of an order and these replies, their first refusal, and the bytes that are given then
 abbrev pub played : Order → List Reply → List Exchange

@@ -15,6 +15,7 @@ use Rattle.mmc.specs.declared.units.FrameCount.{FrameCount}
 use Rattle.mmc.specs.declared.order.Order.{Order}
 use Rattle.mmc.specs.declared.order.Method.{Method}
 use Rattle.mmc.specs.declared.order.Method.the-variants.{Tao, Sao}
+use Rattle.mmc.specs.declared.order.Recipe.{Recipe}
 use Rattle.recorder.specs.declared.script.Op.{Op}
 use Rattle.recorder.specs.declared.script.Op.the-variants.{GetConfiguration, ReadDiscInformation, ReadTrackInformation, ModeSelect, SendCueSheet, Write, SynchronizeCache, CloseTrack, CloseSession, Blank, TestUnitReady, RequestSense}
 use Rattle.recorder.specs.declared.places.Following.{Following}
@@ -34,7 +35,7 @@ use Rattle.recorder.specs.declared.job.Recorder.{Recorder}
 use Rattle.recorder.specs.declared.job.Step.{Step}
 use Rattle.recorder.specs.Replies.{reading, UnsignedIn, ForTrack}
 use Rattle.recorder.specs.Answers.{Why, because, drive-failed, Ruling, issue, done, stop, said, bytesOf, cdbOf}
-use Rattle.recorder.specs.Script.{portion, trackIn, isPoll, isErasing, isPolled, stepwise}
+use Rattle.recorder.specs.Script.{portion, trackIn, isPoll, isErasing, isPolled, stepwise, closesTracks}
 use Rattle.recorder.specs.Places.{pieceOf, afterIn}
 use Rattle.recorder.specs.Exchanges.{nothingSeen, see}
 use Rattle.recorder.specs.Rules.{lastFrame, Judgement, again, onward, refused, judge}
@@ -164,24 +165,24 @@ inPiece Sao n k t = if (ltb t n) (ltb 0 k) (eqb t n)
 unfoldable pub isWrite : ℕ → ℕ → ℕ → FrameCount → Bool
 isWrite l f c at = ltb f l && (eqb c (portion l f) && inTime (l - f) at)
 
--- what an operation needs: its method, its track, and the address where the next block goes
-abbrev pub standsAt : Method → ℕ → ℕ → ℕ → FrameCount → Op → Bool
-standsAt m n l k at GetConfiguration = true
-standsAt m n l k at ReadDiscInformation = true
-standsAt m n l k at (ReadTrackInformation t) = inOrder n (t .0)
-standsAt m n l k at (ModeSelect t) = inOrder n (t .0) && inTime l at
-standsAt m n l k at SendCueSheet = not (stepwise m) && inTime l at
-standsAt m n l k at (Write t f c) = inPiece m n k (t .0) && isWrite l (f .0) (c .0) at
-standsAt m n l k at (SynchronizeCache t) = inOrder n (t .0)
-standsAt m n l k at (CloseTrack t) = stepwise m && inOrder n (t .0)
-standsAt m n l k at CloseSession = stepwise m
-standsAt m n l k at Blank = true
-standsAt m n l k at TestUnitReady = false
-standsAt m n l k at RequestSense = false
+-- what an operation needs: its method and recipe, its track, and the address where the next block goes
+abbrev pub standsAt : Method → Recipe → ℕ → ℕ → ℕ → FrameCount → Op → Bool
+standsAt m q n l k at GetConfiguration = true
+standsAt m q n l k at ReadDiscInformation = true
+standsAt m q n l k at (ReadTrackInformation t) = inOrder n (t .0)
+standsAt m q n l k at (ModeSelect t) = inOrder n (t .0) && inTime l at
+standsAt m q n l k at SendCueSheet = not (stepwise m) && inTime l at
+standsAt m q n l k at (Write t f c) = inPiece m n k (t .0) && isWrite l (f .0) (c .0) at
+standsAt m q n l k at (SynchronizeCache t) = inOrder n (t .0)
+standsAt m q n l k at (CloseTrack t) = closesTracks m q && inOrder n (t .0)
+standsAt m q n l k at CloseSession = stepwise m
+standsAt m q n l k at Blank = true
+standsAt m q n l k at TestUnitReady = false
+standsAt m q n l k at RequestSense = false
 
 -- in an order of 1 to 99 tracks
-unfoldable pub standsIn : Method → ℕ → ℕ → ℕ → FrameCount → Op → Bool
-standsIn m n l k at x = leb 1 n && (leb n mostTracks && standsAt m n l k at x)
+unfoldable pub standsIn : Method → Recipe → ℕ → ℕ → ℕ → FrameCount → Op → Bool
+standsIn m q n l k at x = leb 1 n && (leb n mostTracks && standsAt m q n l k at x)
 
 -- a poll is of an operation that is polled
 abbrev pub standsPolled : Bool → Op → Poll → Bool
@@ -197,7 +198,7 @@ abbrev pub stands : Order → Progress → Bool
 stands o s =
     standsPolled (o .immed) (s .place) (s .poll) &&
     (standsErasing (o .erase) (s .place) &&
-    standsIn (o .method) (o .count) (pieceOf o (trackIn (s .place))) (pieceOf o (suc (trackIn (s .place)))) (s .seen .at) (s .place))
+    standsIn (o .method) (o .recipe) (o .count) (pieceOf o (trackIn (s .place))) (pieceOf o (suc (trackIn (s .place)))) (s .seen .at) (s .place))
 
 -- no reply is awaited
 abbrev pub restsAt : Phase → Bool

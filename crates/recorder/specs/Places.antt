@@ -9,6 +9,8 @@ use Rattle.mmc.specs.Times.{leadFrames}
 use Rattle.mmc.specs.declared.order.Order.{Order}
 use Rattle.mmc.specs.declared.order.Method.{Method}
 use Rattle.mmc.specs.declared.order.Method.the-variants.{Tao, Sao}
+use Rattle.mmc.specs.declared.order.Recipe.{Recipe}
+use Rattle.mmc.specs.declared.order.Recipe.the-variants.{Old, New}
 use Rattle.recorder.specs.declared.script.Op.{Op}
 use Rattle.recorder.specs.declared.script.Op.the-variants.{GetConfiguration, ReadDiscInformation, ReadTrackInformation, ModeSelect, SendCueSheet, Write, SynchronizeCache, CloseTrack, CloseSession, Blank, TestUnitReady, RequestSense}
 use Rattle.recorder.specs.declared.places.Following.{Following}
@@ -35,28 +37,29 @@ abbrev pub afterPage : Method → Op → Op
 afterPage Tao x = x
 afterPage Sao x = SendCueSheet
 
--- after 35h: 5Bh function 1; in SAO it was the last
-abbrev pub afterSynchronize : Method → ℕ → Following
-afterSynchronize Tao t = Then (CloseTrack (record { 0 = t }))
-afterSynchronize Sao t = Nothing
+-- after the track t is closed: the next track, or 5Bh function 2
+unfoldable pub afterTrack : ℕ → ℕ → Op
+afterTrack n t = if (ltb t n) (ReadTrackInformation (record { 0 = suc t })) CloseSession
 
--- after 5Bh function 1: the next track, or 5Bh function 2
-unfoldable pub afterCloseTrack : ℕ → ℕ → Op
-afterCloseTrack n t = if (ltb t n) (ReadTrackInformation (record { 0 = suc t })) CloseSession
+-- after 35h: 5Bh function 1; by the new recipe the track is closed; in SAO it was the last
+abbrev pub afterSynchronize : Method → Recipe → ℕ → ℕ → Following
+afterSynchronize Tao Old n t = Then (CloseTrack (record { 0 = t }))
+afterSynchronize Tao New n t = Then (afterTrack n t)
+afterSynchronize Sao q n t = Nothing
 
-abbrev pub opAfter : Method → ℕ → ℕ → ℕ → Op → Following
-opAfter m n l k GetConfiguration = Then ReadDiscInformation
-opAfter m n l k ReadDiscInformation = Then (ReadTrackInformation (record { 0 = 1 }))
-opAfter m n l k (ReadTrackInformation t) = Then (ModeSelect t)
-opAfter m n l k (ModeSelect t) = Then (afterPage m (beforeBlock m n l k (t .0) 0))
-opAfter m n l k SendCueSheet = Then (beforeBlock m n l k 0 0)
-opAfter m n l k (Write t f c) = Then (beforeBlock m n l k (t .0) (f .0 + c .0))
-opAfter m n l k (SynchronizeCache t) = afterSynchronize m (t .0)
-opAfter m n l k (CloseTrack t) = Then (afterCloseTrack n (t .0))
-opAfter m n l k CloseSession = Nothing
-opAfter m n l k Blank = Then ReadDiscInformation
-opAfter m n l k TestUnitReady = Nothing
-opAfter m n l k RequestSense = Nothing
+abbrev pub opAfter : Method → Recipe → ℕ → ℕ → ℕ → Op → Following
+opAfter m q n l k GetConfiguration = Then ReadDiscInformation
+opAfter m q n l k ReadDiscInformation = Then (ReadTrackInformation (record { 0 = 1 }))
+opAfter m q n l k (ReadTrackInformation t) = Then (ModeSelect t)
+opAfter m q n l k (ModeSelect t) = Then (afterPage m (beforeBlock m n l k (t .0) 0))
+opAfter m q n l k SendCueSheet = Then (beforeBlock m n l k 0 0)
+opAfter m q n l k (Write t f c) = Then (beforeBlock m n l k (t .0) (f .0 + c .0))
+opAfter m q n l k (SynchronizeCache t) = afterSynchronize m q n (t .0)
+opAfter m q n l k (CloseTrack t) = Then (afterTrack n (t .0))
+opAfter m q n l k CloseSession = Nothing
+opAfter m q n l k Blank = Then ReadDiscInformation
+opAfter m q n l k TestUnitReady = Nothing
+opAfter m q n l k RequestSense = Nothing
 
 -- the blocks of a piece of the job: of the pause, or of the track t
 abbrev pub pieceOf : Order → ℕ → ℕ
@@ -65,4 +68,4 @@ pieceOf o (suc t) = getD (o .tracks) t noTrack .length .0
 
 -- in an order
 abbrev pub afterIn : Order → Op → Following
-afterIn o x = opAfter (o .method) (o .count) (pieceOf o (trackIn x)) (pieceOf o (suc (trackIn x))) x
+afterIn o x = opAfter (o .method) (o .recipe) (o .count) (pieceOf o (trackIn x)) (pieceOf o (suc (trackIn x))) x

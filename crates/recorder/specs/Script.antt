@@ -1,16 +1,18 @@
 -- The plan of a job: its operations if all replies are good, from the order alone and before their addresses are known.
-use mathlib.Core.Bool.{Bool, true, false, _&&_, _||_}
+use mathlib.Core.Bool.{Bool, true, false, not, _&&_, _||_}
 use mathlib.Core.List.{List, [], _∷_, _++_}
 use Prim.Native.Nat.{ℕ, zero, suc, _+_, _-_, _*_, _/_, min}
 use lib.Dec.{eqb}
 use Rattle.basics.specs.Bytes.{if}
-use Rattle.mmc.specs.Order.{tracksIn}
+use Rattle.mmc.specs.Order.{isNew, tracksIn}
 use Rattle.mmc.specs.Times.{leadFrames}
 use Rattle.mmc.specs.Commands.{mostBlocks}
 use Rattle.mmc.specs.declared.order.Order.{Order}
 use Rattle.mmc.specs.declared.order.Track.{Track}
 use Rattle.mmc.specs.declared.order.Method.{Method}
 use Rattle.mmc.specs.declared.order.Method.the-variants.{Tao, Sao}
+use Rattle.mmc.specs.declared.order.Recipe.{Recipe}
+use Rattle.mmc.specs.declared.order.Recipe.the-variants.{Old, New}
 use Rattle.recorder.specs.declared.script.Op.{Op}
 use Rattle.recorder.specs.declared.script.Op.the-variants.{GetConfiguration, ReadDiscInformation, ReadTrackInformation, ModeSelect, SendCueSheet, Write, SynchronizeCache, CloseTrack, CloseSession, Blank, TestUnitReady, RequestSense}
 
@@ -135,11 +137,21 @@ abbrev pub beforeBy : Method → List Op → List Op
 beforeBy Tao after = after
 beforeBy Sao after = ReadTrackInformation (record { 0 = 1 }) ∷ ModeSelect (record { 0 = 1 }) ∷ SendCueSheet ∷ (writesFrom 0 leadFrames 0 ++ after)
 
--- the track t, of l blocks. TAO: "a fresh 52h before each but the first; 55h; WRITEs; 35h; 5Bh function 1"; SAO: its WRITEs
-abbrev pub trackBy : Method → ℕ → ℕ → List Op → List Op
-trackBy Tao t l after =
-    ReadTrackInformation (record { 0 = t }) ∷ ModeSelect (record { 0 = t }) ∷ (writesFrom t l 0 ++ (SynchronizeCache (record { 0 = t }) ∷ CloseTrack (record { 0 = t }) ∷ after))
-trackBy Sao t l after = writesFrom t l 0 ++ after
+-- the closing of the track t after its 35h, by recipe: "0 the old, 1 the new without function 1"
+abbrev pub closeBy : Recipe → ℕ → List Op → List Op
+closeBy Old t after = CloseTrack (record { 0 = t }) ∷ after
+closeBy New t after = after
+
+-- so function 1 stands in a script, or does not
+abbrev pub closesTracks : Method → Recipe → Bool
+closesTracks Tao q = not (isNew q)
+closesTracks Sao q = false
+
+-- the track t, of l blocks. TAO: "a fresh 52h before each but the first; 55h; WRITEs; 35h; 5Bh function 1", this by the recipe; SAO: its WRITEs
+abbrev pub trackBy : Method → Recipe → ℕ → ℕ → List Op → List Op
+trackBy Tao q t l after =
+    ReadTrackInformation (record { 0 = t }) ∷ ModeSelect (record { 0 = t }) ∷ (writesFrom t l 0 ++ (SynchronizeCache (record { 0 = t }) ∷ closeBy q t after))
+trackBy Sao q t l after = writesFrom t l 0 ++ after
 
 -- TAO: "After the last track: 5Bh function 2"; SAO: "35h. No 5Bh"
 abbrev pub endBy : Method → ℕ → List Op
@@ -150,7 +162,7 @@ abbrev pub beforeTracks : Order → List Op → List Op
 beforeTracks o after = beforeBy (o .method) after
 
 abbrev pub oneTrack : Order → ℕ → ℕ → List Op → List Op
-oneTrack o t l after = trackBy (o .method) t l after
+oneTrack o t l after = trackBy (o .method) (o .recipe) t l after
 
 -- these tracks, which come after the first t, and the end
 abbrev pub eachTrack : Order → ℕ → List Track → List Op
@@ -168,13 +180,14 @@ abbrev pub writesIn : List Track → ℕ
 writesIn [] = 0
 writesIn (x ∷ xs) = writesFor (x .length .0) + writesIn xs
 
--- "an all-good job has 4n+3+W commands in TAO, 16+W in SAO"
-abbrev pub expectedBy : Method → ℕ → ℕ → ℕ
-expectedBy Tao n w = 4 * n + 3 + w
-expectedBy Sao n w = 16 + w
+-- "an all-good job has 4n+3+W commands in TAO, 16+W in SAO"; "Under recipe 1 the count in TAO is 3n+3+W"
+abbrev pub expectedBy : Method → Recipe → ℕ → ℕ → ℕ
+expectedBy Tao Old n w = 4 * n + 3 + w
+expectedBy Tao New n w = 3 * n + 3 + w
+expectedBy Sao q n w = 16 + w
 
 abbrev pub expected : Order → ℕ
-expected o = expectedBy (o .method) (o .count) (writesIn (tracksIn o))
+expected o = expectedBy (o .method) (o .recipe) (o .count) (writesIn (tracksIn o))
 
 -- ---- the ordered blocks and the closing commands
 

@@ -25,6 +25,7 @@ use crate::rules::LAST_FRAME;
 use crate::rules::Verdict;
 use crate::rules::judge_reply;
 use crate::script::Op;
+use crate::script::closes_tracks;
 use crate::script::is_erasing;
 use crate::script::is_stepwise;
 use crate::script::portion_of;
@@ -33,6 +34,7 @@ use crate::script::track_of;
 use mmc::order::MOST_TRACKS;
 use mmc::order::Method;
 use mmc::order::Order;
+use mmc::order::Recipe;
 use mmc::order::no_order;
 use mmc::order_block::read_order;
 use mmc::refusals::Check;
@@ -154,8 +156,16 @@ fn both(a: bool, b: bool) -> bool
 
 // Whether a job of so many tracks can wait for the reply to an operation whose piece and the next one have so many blocks, with the
 // next block at a frame.
-fn stands_at(m: Method, tracks: u8, length: u32, next: u32, place: Op, at: FrameCount) -> bool
-    ensures { λ r. ⌜ r ≡ standsAt m tracks length next at place ⌝ }
+fn stands_at(
+    m: Method,
+    q: Recipe,
+    tracks: u8,
+    length: u32,
+    next: u32,
+    place: Op,
+    at: FrameCount,
+) -> bool
+    ensures { λ r. ⌜ r ≡ standsAt m q tracks length next at place ⌝ }
 {
     let track = track_of(place);
     let begun = in_order(tracks, track);
@@ -163,7 +173,7 @@ fn stands_at(m: Method, tracks: u8, length: u32, next: u32, place: Op, at: Frame
     let timely = in_time(length, at);
     let page = both(begun, timely);
     let sheet = both(!stepwise, timely);
-    let closed = both(stepwise, begun);
+    let closed = both(closes_tracks(m, q), begun);
     let piece = in_piece(m, tracks, next, track);
     match place {
         Op::GetConfiguration => true,
@@ -186,8 +196,16 @@ fn stands_at(m: Method, tracks: u8, length: u32, next: u32, place: Op, at: Frame
 }
 
 // The same of an order: it has 1 to 99 tracks.
-fn stands_in(m: Method, tracks: u8, length: u32, next: u32, place: Op, at: FrameCount) -> bool
-    ensures { λ r. ⌜ r ≡ standsIn m tracks length next at place ⌝ }
+fn stands_in(
+    m: Method,
+    q: Recipe,
+    tracks: u8,
+    length: u32,
+    next: u32,
+    place: Op,
+    at: FrameCount,
+) -> bool
+    ensures { λ r. ⌜ r ≡ standsIn m q tracks length next at place ⌝ }
 {
     if tracks < 1 {
         return false;
@@ -195,7 +213,7 @@ fn stands_in(m: Method, tracks: u8, length: u32, next: u32, place: Op, at: Frame
     if MOST_TRACKS < tracks {
         return false;
     }
-    stands_at(m, tracks, length, next, place, at)
+    stands_at(m, q, tracks, length, next, place, at)
 }
 
 // Whether an operation can be polled where it is: with the flag one that takes Immed.
@@ -345,6 +363,7 @@ fn turn(o: Order, s: Progress, length: u32, next: u32, reading: Reading) -> Move
     ensures { λ r. ⌜ turnIn r ≡ turnOf o s reading ⌝ }
 {
     let m = o.method;
+    let q = o.recipe;
     let place = s.place;
     let poll = s.poll;
     let v = s.seen;
@@ -355,7 +374,7 @@ fn turn(o: Order, s: Progress, length: u32, next: u32, reading: Reading) -> Move
         Verdict::Onward => onward_by(
             poll,
             place,
-            op_after(m, o.count, length, next, place),
+            op_after(m, q, o.count, length, next, place),
             see_reply(m, op, v, reading),
         ),
         Verdict::Poll => Move::Onward(Progress {
@@ -432,6 +451,7 @@ impl Recorder {
         let o = self.order;
         let s = self.progress;
         let m = o.method;
+        let q = o.recipe;
         let place = s.place;
         let poll = s.poll;
         let v = s.seen;
@@ -440,7 +460,7 @@ impl Recorder {
         let length = piece_length(o, track);
         let next = piece_length(o, track + 1);
         let erasing = stands_erasing(o.erase, place);
-        let within = stands_in(m, o.count, length, next, place, at);
+        let within = stands_in(m, q, o.count, length, next, place, at);
         both(stands_polled(o.immed, place, poll), both(erasing, within))
     }
 
@@ -456,6 +476,7 @@ impl Recorder {
         let o = self.order;
         let s = self.progress;
         let m = o.method;
+        let q = o.recipe;
         let place = s.place;
         let poll = s.poll;
         let v = s.seen;
@@ -465,7 +486,7 @@ impl Recorder {
         let next = piece_length(o, track + 1);
         let polled = stands_polled(o.immed, place, poll);
         let erasing = stands_erasing(o.erase, place);
-        let within = stands_in(m, o.count, length, next, place, at);
+        let within = stands_in(m, q, o.count, length, next, place, at);
         if !both(polled, both(erasing, within)) {
             return answered(self, Answer::Stop(Refusal::FieldValue));
         }

@@ -2,13 +2,14 @@
 ghost use mathlib.Core.Path.{_≡_};
 ghost use Prim.Native.Nat.{_<_, _^_};
 ghost use Rattle.recorder.specs.Script.{portion, write};
-ghost use Rattle.recorder.specs.Places.{pieceOf, pieceEnded, beforeBlock, blockAfter, afterPage, afterSynchronize, afterCloseTrack, opAfter};
+ghost use Rattle.recorder.specs.Places.{pieceOf, pieceEnded, beforeBlock, blockAfter, afterPage, afterTrack, afterSynchronize, opAfter};
 use crate::script::Op;
 use crate::script::portion_of;
 use crate::script::track_of;
 use mmc::order::MOST_TRACKS;
 use mmc::order::Method;
 use mmc::order::Order;
+use mmc::order::Recipe;
 use mmc::times::LEAD_FRAMES;
 use mmc::units::BlockCount;
 use mmc::units::TrackNumber;
@@ -113,19 +114,9 @@ fn after_page(m: Method, writes: Op) -> Op
     }
 }
 
-// After SYNCHRONIZE CACHE: the track is closed, or a session at once is done.
-fn after_synchronize(m: Method, track: u16) -> Following
-    ensures { λ r. ⌜ r ≡ afterSynchronize m track ⌝ }
-{
-    match m {
-        Method::Tao => Following::Next(Op::CloseTrack(TrackNumber(track))),
-        Method::Sao => Following::Nothing,
-    }
-}
-
-// After the closing of a track: the next of the tracks, or the closing of the session.
-fn after_close_track(tracks: u8, track: u16) -> Op
-    ensures { λ r. ⌜ r ≡ afterCloseTrack tracks track ⌝ }
+// After a track is closed: the next of the tracks, or the closing of the session.
+fn after_track(tracks: u8, track: u16) -> Op
+    ensures { λ r. ⌜ r ≡ afterTrack tracks track ⌝ }
 {
     if track < tracks as u16 {
         Op::ReadTrackInformation(TrackNumber(track + 1))
@@ -134,16 +125,36 @@ fn after_close_track(tracks: u8, track: u16) -> Op
     }
 }
 
+// After SYNCHRONIZE CACHE: the track is closed, by the new recipe it is already, or a session at once is done.
+fn after_synchronize(m: Method, q: Recipe, tracks: u8, track: u16) -> Following
+    ensures { λ r. ⌜ r ≡ afterSynchronize m q tracks track ⌝ }
+{
+    match m {
+        Method::Tao => match q {
+            Recipe::Old => Following::Next(Op::CloseTrack(TrackNumber(track))),
+            Recipe::New => Following::Next(after_track(tracks, track)),
+        },
+        Method::Sao => Following::Nothing,
+    }
+}
+
 // The operation after another, in an order of so many tracks; the piece at hand and the next one have so many blocks.
-pub(crate) fn op_after(m: Method, tracks: u8, length: u32, next: u32, op: Op) -> Following
+pub(crate) fn op_after(
+    m: Method,
+    q: Recipe,
+    tracks: u8,
+    length: u32,
+    next: u32,
+    op: Op,
+) -> Following
     requires { ⌜ blockAfter op < 2 ^ 32 ⌝ }
-    ensures { λ r. ⌜ r ≡ opAfter m tracks length next op ⌝ }
+    ensures { λ r. ⌜ r ≡ opAfter m q tracks length next op ⌝ }
 {
     let track = track_of(op);
     let writes = before_block(m, tracks, length, next, track, block_after(op));
     let page = after_page(m, writes);
-    let synchronized = after_synchronize(m, track);
-    let closed = after_close_track(tracks, track);
+    let synchronized = after_synchronize(m, q, tracks, track);
+    let closed = after_track(tracks, track);
     match op {
         Op::GetConfiguration => Following::Next(Op::ReadDiscInformation),
         Op::ReadDiscInformation => Following::Next(Op::ReadTrackInformation(TrackNumber(1))),

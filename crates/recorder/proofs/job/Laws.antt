@@ -17,6 +17,7 @@ use Rattle.mmc.specs.ReplyBlock.{replyOf}
 use Rattle.mmc.specs.declared.units.FrameCount.{FrameCount}
 use Rattle.mmc.specs.declared.order.Order.{Order}
 use Rattle.mmc.specs.declared.order.Method.{Method}
+use Rattle.mmc.specs.declared.order.Recipe.{Recipe}
 use Rattle.mmc.specs.declared.order.Method.the-variants.{Tao, Sao}
 use Rattle.mmc.specs.declared.refusals.Refusal.{Refusal}
 use Rattle.mmc.specs.declared.refusals.Check.{Check}
@@ -55,7 +56,7 @@ pub record Tested (o : Order) (s : Progress) (l k : ℕ) (b : Bool) : Type 0 whe
   pub next-is : k ≡ pieceOf o (suc (trackIn (s .place)))
   pub test-is : b ≡ stands o s
 
-pub tested-so : (o : Order) (s : Progress) {t l k : ℕ} {a b c d f : Bool} → t ≡ trackIn (s .place) → l ≡ pieceOf o t → k ≡ pieceOf o (t + 1) → a ≡ standsPolled (o .immed) (s .place) (s .poll) → b ≡ standsErasing (o .erase) (s .place) → c ≡ standsIn (o .method) (o .count) l k (s .seen .at) (s .place) → d ≡ b && c → f ≡ a && d → Tested o s l k f
+pub tested-so : (o : Order) (s : Progress) {t l k : ℕ} {a b c d f : Bool} → t ≡ trackIn (s .place) → l ≡ pieceOf o t → k ≡ pieceOf o (t + 1) → a ≡ standsPolled (o .immed) (s .place) (s .poll) → b ≡ standsErasing (o .erase) (s .place) → c ≡ standsIn (o .method) (o .recipe) (o .count) l k (s .seen .at) (s .place) → d ≡ b && c → f ≡ a && d → Tested o s l k f
 tested-so o s e p q i b h w j =
     let x = rw e at p in
     let y = rw (add-one, e) at q in
@@ -64,13 +65,13 @@ tested-so o s e p q i b h w j =
 
 -- ---- where the job stands, what comes after it is a number of 32 bits
 
-module _ (m : Method) (n l k : ℕ) (at : FrameCount) where
-  at-place : (x : Op) → standsIn m n l k at x ≡ true → standsAt m n l k at x ≡ true
+module _ (m : Method) (u : Recipe) (n l k : ℕ) (at : FrameCount) where
+  at-place : (x : Op) → standsIn m u n l k at x ≡ true → standsAt m u n l k at x ≡ true
   unfolding standsIn
   at-place x e = both (leb n mostTracks) _ (both (leb 1 n) _ e .1) .1
 
   -- a WRITE ends in its piece, and this in time, so what is read off an operation where the job stands need hold only of such a one
-  by-write : {B : Type 0} (P : B → Type 0) (z : B) (g : ℕ → ℕ → ℕ → B) (x : Op) → standsIn m n l k at x ≡ true → P z → ((t f c : ℕ) → f + c ≤ l → at .0 + c ≤ lastFrame → P (g t f c)) → P (ofWrite z g x)
+  by-write : {B : Type 0} (P : B → Type 0) (z : B) (g : ℕ → ℕ → ℕ → B) (x : Op) → standsIn m u n l k at x ≡ true → P z → ((t f c : ℕ) → f + c ≤ l → at .0 + c ≤ lastFrame → P (g t f c)) → P (ofWrite z g x)
   by-write P z g GetConfiguration e p q = p
   by-write P z g ReadDiscInformation e p q = p
   by-write P z g (ReadTrackInformation t) e p q = p
@@ -89,10 +90,10 @@ module _ (m : Method) (n l k : ℕ) (at : FrameCount) where
   by-write P z g TestUnitReady e p q = p
   by-write P z g RequestSense e p q = p
 
-  pub block-fits : (x : Op) → standsIn m n l k at x ≡ true → l < 2 ^ 32 → blockAfter x < 2 ^ 32
+  pub block-fits : (x : Op) → standsIn m u n l k at x ≡ true → l < 2 ^ 32 → blockAfter x < 2 ^ 32
   block-fits x e h = by-write (λ (b : ℕ). b < 2 ^ 32) 0 (λ t f c. f + c) x e (omega arith) (λ t f c p q. omega arith)
 
-  past-fits : (x : Op) → standsIn m n l k at x ≡ true → at .0 < 2 ^ 32 → past x at .0 < 2 ^ 32
+  past-fits : (x : Op) → standsIn m u n l k at x ≡ true → at .0 < 2 ^ 32 → past x at .0 < 2 ^ 32
   past-fits x e h = by-write (λ (a : FrameCount). a .0 < 2 ^ 32) at (λ t f c. record { 0 = at .0 + c }) x e h (λ t f c p q. omega arith)
 
 -- ---- where the judgement of a 52h has passed, its track begins in time
@@ -102,13 +103,13 @@ start-fits Tao blocks at i e h = let k = limits Tao blocks i e .1 in omega arith
 start-fits Sao blocks at i e h = h
 
 -- the last part of the test
-pub in-place : (o : Order) (s : Progress) → stands o s ≡ true → standsIn (o .method) (o .count) (pieceOf o (trackIn (s .place))) (pieceOf o (suc (trackIn (s .place)))) (s .seen .at) (s .place) ≡ true
+pub in-place : (o : Order) (s : Progress) → stands o s ≡ true → standsIn (o .method) (o .recipe) (o .count) (pieceOf o (trackIn (s .place))) (pieceOf o (suc (trackIn (s .place)))) (s .seen .at) (s .place) ≡ true
 in-place o s e = both (standsErasing (o .erase) (s .place)) _ (both (standsPolled (o .immed) (s .place) (s .poll)) _ e .1) .1
 
-module _ (o : Order) (x : Op) (v : Seen) (h : v .at .0 < 2 ^ 32) (e : standsIn (o .method) (o .count) (pieceOf o (trackIn x)) (pieceOf o (suc (trackIn x))) (v .at) x ≡ true) where
+module _ (o : Order) (x : Op) (v : Seen) (h : v .at .0 < 2 ^ 32) (e : standsIn (o .method) (o .recipe) (o .count) (pieceOf o (trackIn x)) (pieceOf o (suc (trackIn x))) (v .at) x ≡ true) where
   -- a poll puts no block
   past-due : (p : Poll) → past (dueAt x p) (v .at) .0 < 2 ^ 32
-  past-due Off = past-fits (o .method) (o .count) _ _ (v .at) x e h
+  past-due Off = past-fits (o .method) (o .recipe) (o .count) _ _ (v .at) x e h
   past-due Ready = h
   past-due Sense = h
 
@@ -141,9 +142,9 @@ small : (d : List ℕ) (k : ℕ) → Bytes d → be32 (drop k d) < 2 ^ 32
 unfolding be32
 small d k h = simp getD-drop (omega (arith, h (k + 0), h (k + 1), h (k + 2), h (k + 3)))
 
-module _ (m : Method) (n l k : ℕ) (at : FrameCount) (d : List ℕ) (h : Bytes d) where
+module _ (m : Method) (u : Recipe) (n l k : ℕ) (at : FrameCount) (d : List ℕ) (h : Bytes d) where
   -- a 52h comes before a track of the order
-  sound-good : (x : Op) → standsAt m n l k at x ≡ true → Sound (trackIn x) (readGood x d)
+  sound-good : (x : Op) → standsAt m u n l k at x ≡ true → Sound (trackIn x) (readGood x d)
   unfolding inOrder readProfile readDisc readInformation informationOf readProgress
   sound-good GetConfiguration e = sound-if 0 (wholeProfile d) _ _ (tt, tt) (tt, tt)
   sound-good ReadDiscInformation e = sound-if 0 (wholeDisc d) _ _ (tt, tt) (tt, tt)
@@ -163,28 +164,28 @@ module _ (m : Method) (n l k : ℕ) (at : FrameCount) (d : List ℕ) (h : Bytes 
   sound-failed x = sound-if (trackIn x) (asksReady x) _ _ (sound-if (trackIn x) (isUnready d) _ _ (tt, tt) (tt, tt)) (sound-if (trackIn x) (isBusy d) _ _ (tt, tt) (tt, tt))
 
   -- neither poll has an address
-  sound-due : (x : Op) (p : Poll) → standsAt m n l k at x ≡ true → Sound (trackIn (dueAt x p)) (readGood (dueAt x p) d)
+  sound-due : (x : Op) (p : Poll) → standsAt m u n l k at x ≡ true → Sound (trackIn (dueAt x p)) (readGood (dueAt x p) d)
   unfolding readProgress
   sound-due x Off e = sound-good x e
   sound-due x Ready e = (tt, tt)
   sound-due x Sense e = sound-if 0 (leb 18 (length d)) _ _ (tt, tt) (tt, tt)
 
-  pub sound : (x : Op) (p : Poll) (good : Bool) → standsIn m n l k at x ≡ true → Sound (trackIn (dueAt x p)) (reading (dueAt x p) (replyOf good d))
-  sound x p good e = sound-if (trackIn (dueAt x p)) good _ _ (sound-due x p (at-place m n l k at x e)) (sound-failed (dueAt x p))
+  pub sound : (x : Op) (p : Poll) (good : Bool) → standsIn m u n l k at x ≡ true → Sound (trackIn (dueAt x p)) (reading (dueAt x p) (replyOf good d))
+  sound x p good e = sound-if (trackIn (dueAt x p)) good _ _ (sound-due x p (at-place m u n l k at x e)) (sound-failed (dueAt x p))
 
 pub prepared : (o : Order) (s : Progress) {l k : ℕ} {v : Bool} {r : Reading} (good : Bool) (d : List ℕ) → Tested o s l k v → not v ≡ false → Bytes d → r ≡ reading (dueIn s) (replyOf good d) → Prepared o s l k r
 prepared o s good d w h b e =
     let p : stands o s ≡ true = sym (w .test-is) ∙ not-false _ h in
-    let q = sound (o .method) (o .count) _ _ (s .seen .at) d b (s .place) (s .poll) good (in-place o s p) in
+    let q = sound (o .method) (o .recipe) (o .count) _ _ (s .seen .at) d b (s .place) (s .poll) good (in-place o s p) in
     record { length-is = w .length-is; next-is = w .next-is; passes = p; unsigned = rw e (q .0); for-track = rw e (q .1) }
 
 -- ---- a step
 
 -- onward with nothing in front
-pub turned : (o : Order) (s : Progress) (r : Reading) {l k : ℕ} {d : Op} {f : Following} {w : Seen} {t : Turn} → judge o (s .seen) (dueIn s) r ≡ onward [] → d ≡ dueIn s → w ≡ see (o .method) d r (s .seen) → l ≡ pieceOf o (trackIn (s .place)) → k ≡ pieceOf o (suc (trackIn (s .place))) → f ≡ opAfter (o .method) (o .count) l k (s .place) → t ≡ onwardBy (s .poll) (s .place) f w → t ≡ turnOf o s r
+pub turned : (o : Order) (s : Progress) (r : Reading) {l k : ℕ} {d : Op} {f : Following} {w : Seen} {t : Turn} → judge o (s .seen) (dueIn s) r ≡ onward [] → d ≡ dueIn s → w ≡ see (o .method) d r (s .seen) → l ≡ pieceOf o (trackIn (s .place)) → k ≡ pieceOf o (suc (trackIn (s .place))) → f ≡ opAfter (o .method) (o .recipe) (o .count) l k (s .place) → t ≡ onwardBy (s .poll) (s .place) f w → t ≡ turnOf o s r
 turned o s r {k = k} {w = w} j i e x y h q =
     q ∙
-    ap (λ (g : Following). onwardBy (s .poll) (s .place) g w) (h ∙ ap (λ (n : ℕ). opAfter (o .method) (o .count) n k (s .place)) x ∙ ap (λ (n : ℕ). opAfter (o .method) (o .count) (pieceOf o (trackIn (s .place))) n (s .place)) y) ∙
+    ap (λ (g : Following). onwardBy (s .poll) (s .place) g w) (h ∙ ap (λ (n : ℕ). opAfter (o .method) (o .recipe) (o .count) n k (s .place)) x ∙ ap (λ (n : ℕ). opAfter (o .method) (o .recipe) (o .count) (pieceOf o (trackIn (s .place))) n (s .place)) y) ∙
     ap (λ (v : Seen). onwardBy (s .poll) (s .place) (afterIn o (s .place)) v) (e ∙ ap (λ (a : Op). see (o .method) a r (s .seen)) i) ∙
     ap (λ (a : Judgement). turnBy a o s r) (sym j)
 

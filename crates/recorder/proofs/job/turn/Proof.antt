@@ -24,7 +24,7 @@ judge-reply-requires c κs = let p = c .before .before .pre in (p .unsigned, rw 
 op-after-requires : tie.Need-op-after-requires
 op-after-requires c κs =
     let t = c .before .before .before .before .before in
-    block-fits _ _ _ _ (t .args .s .seen .at) (t .args .s .place) (in-place (t .args .o) (t .args .s) (t .pre .passes)) (length-fits t)
+    block-fits _ _ _ _ _ (t .args .s .seen .at) (t .args .s .place) (in-place (t .args .o) (t .args .s) (t .pre .passes)) (length-fits t)
 
 abbrev start : tie.After-judge-reply → tie.Start
 start c = c .before .before .before

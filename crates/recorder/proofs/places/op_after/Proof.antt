@@ -26,7 +26,7 @@ returns-7 c =
 returns-8 : tie.Need-returns-8
 returns-8 c =
     let k = c .before .before in
-    simp (k .after-close-track .ensures, k .before .before .before .before .before .track-of .ensures, c .enum-told7 .given .1)
+    simp (k .after-track .ensures, k .before .before .before .before .before .track-of .ensures, c .enum-told7 .given .1)
 
 pub op-after-spec : {M : Type 1} → statement M
 op-after-spec =
