@@ -40,7 +40,7 @@ fn make(op: u32, b: &[u8], out: &mut [u8]) -> Made {
         ),
         14 => write_reply(one_at(b, 3) == 0, from(b, 4), out),
         15 => write_order(order_at(b, 3), out),
-        16 => mode_data(order_at(b, 3), kind_at(b, 501), out),
+        16 => mode_data(order_at(b, 3), kind_at(b, 502), out),
         17 => make_sheet(order_at(b, 3), out),
         18 => commands::test_unit_ready(out),
         19 => commands::request_sense(out),

@@ -1,7 +1,7 @@
 // Requests that convert a number or read bytes. They answer `ok` and what was read, or `refused` and
 // the refusal's number.
 ghost use mathlib.Core.Path.{_≡_};
-ghost use Rattle.mmc.specs.OrderBlock.{kindByte, methodByte, flagsByte};
+ghost use Rattle.mmc.specs.OrderBlock.{kindByte, methodByte, flagsByte, recipeByte};
 use crate::line::add_bytes;
 use crate::line::add_next;
 use crate::line::add_signed;
@@ -15,6 +15,7 @@ use mmc::order::Kind;
 use mmc::order::Method;
 use mmc::order::Order;
 use mmc::order::ROWS;
+use mmc::order::Recipe;
 use mmc::order::Track;
 use mmc::order_block::read_order;
 use mmc::refusals::Check;
@@ -97,6 +98,16 @@ fn method_number(m: Method) -> u64
     }
 }
 
+// The number of a recipe.
+fn recipe_number(q: Recipe) -> u64
+    ensures { λ r. ⌜ r ≡ recipeByte q ⌝ }
+{
+    match q {
+        Recipe::Old => 0,
+        Recipe::New => 1,
+    }
+}
+
 // The number of the flags.
 fn flags_number(o: Order) -> u64
     ensures { λ r. ⌜ r ≡ flagsByte (o .keep) (o .protect) (o .immed) (o .erase) ⌝ }
@@ -141,10 +152,12 @@ fn add_order(line: &mut [u8], o: Order) -> usize {
     let method = o.method;
     let count = o.count;
     let tracks = o.tracks;
+    let recipe = o.recipe;
     let flags = add_first(line, method_number(method));
     let counted = add_next(line, flags, flags_number(o));
     let listed = add_next(line, counted, count as u64);
-    add_tracks(line, listed, count, tracks)
+    let last = add_tracks(line, listed, count, tracks);
+    add_next(line, last, recipe_number(recipe))
 }
 
 // Answers `order-read`.

@@ -16,22 +16,22 @@
 //   13 close-track-session      function at 3, track (2) at 4, Immed at 6
 //   14 reply-write              status, 0 good or 1 failed, at 3; bytes from 4 on
 //   15 order-write              order at 3
-//   16 page                     order at 3, kind at 501
+//   16 page                     order at 3, kind at 502
 //   17 sheet                    order at 3
 //   18 test-unit-ready
 //   19 request-sense
 //   20 blank                    Immed at 3
 //
 // Immed is set where its byte is not 0.
-// An order takes 498 bytes: method (1 TAO, 2 SAO), flags (1 keep, 2 protect, 4 Immed, 8 erase), count,
-// and 99 rows of kind (0 audio, 1 data) and length (4 bytes).
+// An order takes 499 bytes: method (1 TAO, 2 SAO), flags (1 keep, 2 protect, 4 Immed, 8 erase), count,
+// 99 rows of kind (0 audio, 1 data) and length (4 bytes), and recipe (0 old, 1 new).
 ghost use mathlib.Core.Path.{_≡_};
 ghost use mathlib.Core.Bool.{not};
 ghost use Prim.Native.Nat.{_≤_, min};
 ghost use lib.Dec.{eqb};
 ghost use lib.ListN.{getD, drop};
 ghost use Rattle.basics.specs.Bytes.{be16, be32};
-ghost use Rattle.mmc.specs.OrderBlock.{kindOf, methodOf};
+ghost use Rattle.mmc.specs.OrderBlock.{kindOf, methodOf, recipeOf};
 use crate::signed::signed;
 use mmc::bytes::byte_at;
 use mmc::bytes::number16;
@@ -40,6 +40,7 @@ use mmc::order::Kind;
 use mmc::order::Method;
 use mmc::order::Order;
 use mmc::order::ROWS;
+use mmc::order::Recipe;
 use mmc::order::Track;
 use mmc::units::BlockAddress;
 use mmc::units::BlockCount;
@@ -130,6 +131,17 @@ fn method_at(b: &[u8], at: usize) -> Method
     }
 }
 
+// The recipe of the byte at an index.
+fn recipe_at(b: &[u8], at: usize) -> Recipe
+    ensures { λ r. ⌜ r ≡ recipeOf (getD (now (b .entry)) at 0) ⌝ }
+{
+    if byte_at(b, at) == 0 {
+        Recipe::Old
+    } else {
+        Recipe::New
+    }
+}
+
 // The track of the row at an index.
 fn track_at(b: &[u8], at: usize) -> Track {
     let row = from(b, at);
@@ -161,12 +173,14 @@ pub(crate) fn order_at(b: &[u8], at: usize) -> Order {
     let flags = one_at(bytes, 1);
     let count = one_at(bytes, 2);
     let tracks = tracks_in(from(bytes, 3));
+    let recipe = recipe_at(bytes, 498);
     Order {
         method: method,
         keep: flags % 2 == 1,
         protect: flags / 2 % 2 == 1,
         immed: flags / 4 % 2 == 1,
         erase: flags / 8 % 2 == 1,
+        recipe: recipe,
         count: count,
         tracks: tracks,
     }
