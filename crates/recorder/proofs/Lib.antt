@@ -4,6 +4,7 @@ pub mod Plans
 pub mod Scripts
 pub mod Rulings
 pub mod Audio
+pub mod Recipes
 pub mod Erasing
 pub mod Apart
 pub mod Goods

@@ -58,13 +58,16 @@ left-unrefused o es p e = go (firstRefused o es) refl
 
 -- ---- the answer
 
-is-done : (o : Order) (es : List Exchange) (f : Found) (l : List Op) → answerTo o es f l ≡ done → (f ≡ none) × (l ≡ [])
-is-done o es (found w) l e = clash (cc)
-is-done o es none [] e = (refl, refl)
-is-done o es none (x ∷ l) e = clash (cc)
+pub is-done : (o : Order) (es : List Exchange) → ruled (pass o) es ≡ done → (firstRefused o es ≡ none) × (left o es ≡ [])
+is-done o es e = go (firstRefused o es) (left o es) e
+  where
+    go : (f : Found) (l : List Op) → answerTo o es f l ≡ done → (f ≡ none) × (l ≡ [])
+    go (found w) l e = clash (cc)
+    go none [] e = (refl, refl)
+    go none (x ∷ l) e = clash (cc)
 
 pub done-left : (o : Order) (es : List Exchange) → ruled (pass o) es ≡ done → left o es ≡ []
-done-left o es e = is-done o es (firstRefused o es) (left o es) e .1
+done-left o es e = is-done o es e .1
 
 -- by what is left where none is refused, and at a refusal
 pub ruled-at : (o : Order) (es : List Exchange) (l : List Op) → firstRefused o es ≡ none → left o es ≡ l → ruled (pass o) es ≡ answerTo o es none l

@@ -3,6 +3,7 @@ pub mod Answers
 pub mod Replies
 pub mod Exchanges
 pub mod Rules
+pub mod Recipes
 pub mod Places
 pub mod Job
 pub mod History
