@@ -9,11 +9,16 @@ use lib.Dec.{lit≤}
 use lib.ListN.{length, getD, length-append}
 use Rattle.basics.specs.Bytes.{if}
 use Rattle.mmc.specs.Refusals.{Outcome, pass, refuse}
-use Rattle.mmc.specs.Order.{tracksIn}
+use Rattle.mmc.specs.Order.{tracksIn, validOrder}
 use Rattle.mmc.specs.OrderBlock.{readOrder}
+use Rattle.mmc.specs.Page.{page, modeBytes, pageFault, modeData}
 use Rattle.mmc.specs.ReplyBlock.{Reply, replyOf}
 use Rattle.mmc.specs.declared.order.Order.{Order}
-use Rattle.mmc.specs.declared.order.Method.the-variants.{Tao}
+use Rattle.mmc.specs.declared.order.Kind.{Kind}
+use Rattle.mmc.specs.declared.order.Method.{Method}
+use Rattle.mmc.specs.declared.order.Method.the-variants.{Tao, Sao}
+use Rattle.mmc.specs.declared.order.Recipe.{Recipe}
+use Rattle.mmc.specs.declared.order.Recipe.the-variants.{Old, New}
 use Rattle.recorder.specs.declared.script.Op.{Op}
 use Rattle.recorder.specs.declared.script.Op.the-variants.{GetConfiguration, Blank}
 use Rattle.recorder.specs.declared.answers.Command.{Command}
@@ -25,13 +30,15 @@ use Rattle.recorder.specs.Answers.{Why, because, Ruling, issue, done, st
 use Rattle.recorder.specs.Script.{isPoll, isErasing, stepwise, write, Block}
 use Rattle.recorder.specs.Exchanges.{Exchange, recorded, occupied, polling, progress, profile, disc, erased, unblank, seen, named}
 use Rattle.recorder.specs.Rules.{left, none, found, refusal, ruled, exchanged, play, orderedIn, AllClosed}
+use Rattle.recorder.specs.Recipes.{under, others, latestOfFunction1, repliesIn, bytesGiven}
 use Rattle.recorder.specs.Job.{Next, nextIn, dueAt, commandOf, mostCommands, latestProgress, unchanged, validOf, takenAs, takeOf, giveOf}
-use Rattle.recorder.specs.History.{History, taken, given, givenAll, history, commandIn, commands, going, as-done, as-stop, ending, ended, phaseIn, Accompanied, OfAnswer, Every, Fresh, Unskipped, RightlyErased, ErasesRightly, BlankBefore, WritesOnBlank, HasAudio, isOpening, OnlyOpens, exactCount, AllWell, unpolled, answered, AllGood, Whole, Takes, Gives}
+use Rattle.recorder.specs.History.{History, taken, given, givenAll, history, commandIn, commands, going, as-done, as-stop, ending, ended, phaseIn, Accompanied, OfAnswer, Every, Fresh, Unskipped, RightlyErased, ErasesRightly, BlankBefore, WritesOnBlank, HasAudio, isOpening, OnlyOpens, ButFunction1, exactCount, AllWell, unpolled, answered, AllGood, Whole, Takes, Gives}
 use Rattle.recorder.proofs.Lists.{if-yes, if-no, clash, false-true, same-order}
 use Rattle.recorder.proofs.Turns.{Played, nothing, played, progress-seen}
 use Rattle.recorder.proofs.Scripts.{script-length}
 use Rattle.recorder.proofs.Rulings.{ruled-at, rule-order, rule-done, due-poll, each-unskipped, rule-stop}
 use Rattle.recorder.proofs.Audio.{due-opens, each-opens}
+use Rattle.recorder.proofs.Recipes.{script-others, others-played, others-done, others-stop}
 use Rattle.recorder.proofs.Erasing.{isLater, rightly-erased, on-blank, each-rightly, each-on-blank}
 use Rattle.recorder.proofs.Apart.{rule-apart}
 use Rattle.recorder.proofs.Charge.{needs-all, room-lasts}
@@ -380,16 +387,56 @@ module _ (b : List ℕ) (rs : List Reply) where
       subst (λ (l : List Exchange). AllGood o (length rs) l (h .answers)) (sym (same-exchanges o e))
       (all-good-by o e (rule-good o rs (read-sized b o e .all) (subst AllWell (same-exchanges o e) g) (ap (refusal (pass o)) (sym (same-exchanges o e)) ∙ u)))
 
-  -- of every order block and every list of replies
-  pub whole : Whole b rs h
-  whole =
-      let l = latest-here in
-      let r : Ruled (readOrder b) (h .exchanges) = subst (Ruled (readOrder b)) (sym is-played) (rules-hold (readOrder b) rs) in
-      let t : ended (h .answers) ≡ ending (ruled (readOrder b) (h .exchanges)) = l .so-ended in
-      let d = ended-done (ruled (readOrder b) (h .exchanges)) in
-      let x : (w : Why) → (ended (h .answers) ≡ as-stop w) ↔ (refusal (readOrder b) (h .exchanges) ≡ found w) = λ w. let i = ended-stop w (ruled (readOrder b) (h .exchanges)) in (λ e. r .stop-when w .0 (i .0 (sym t ∙ e)), λ e. t ∙ i .1 (r .stop-when w .1 e)) in
+-- the two recipes, of the same replies but those to function 1
+module _ (b : List ℕ) (rs : List Reply) (o : Order) (e : readOrder b ≡ pass o) (q : o .recipe ≡ Old) (c : List ℕ) (f : readOrder c ≡ pass (under New o)) where
+  abbrev old : List Exchange
+  old = history b rs .exchanges
+
+  abbrev ys : List Reply
+  ys = repliesIn (others old)
+
+  -- the order is the old one by its recipe
+  is-old : o ≡ under Old o
+  is-old = ap (λ (r : Recipe). under r o) q
+
+  played-old : Played (under Old o) old
+  played-old = subst (λ (z : Order). Played z old) is-old (played-here b rs o e)
+
+  others-there : history c ys .exchanges ≡ others old
+  others-there = same-exchanges c ys (under New o) f ∙ others-played o old played-old
+
+  ended-old : ended (history b rs .answers) ≡ ending (ruled (pass (under Old o)) old)
+  ended-old = so-ended b rs o e ∙ ap (λ (z : Order). ending (ruled (pass z) (play (pass o) [] rs))) is-old ∙ ap (λ (l : List Exchange). ending (ruled (pass (under Old o)) l)) (sym (same-exchanges b rs o e))
+
+  ended-new : ended (history c ys .answers) ≡ ending (ruled (pass (under New o)) (others old))
+  ended-new = so-ended c ys (under New o) f ∙ ap (λ (l : List Exchange). ending (ruled (pass (under New o)) l)) (others-played o old played-old)
+
+  -- the mode data hangs on the recipe in SAO alone
+  page-same : o .method ≡ Tao → (k : Kind) → modeData (under New o) k ≡ modeData o k
+  unfolding modeData pageFault modeBytes page validOrder
+  page-same t k = rw (t, q)
+
+  pub but-function-1 : o .method ≡ Tao → ButFunction1 o (history b rs) (history c ys)
+  but-function-1 t =
       record {
-        played = is-played;
+        exchanges = others-there;
+        bytes = ap (bytesGiven o) others-there;
+        page = page-same t;
+        as-well-done = λ d. ended-new ∙ ended-done (ruled (pass (under New o)) (others old)) .1 (others-done o old played-old (ended-done (ruled (pass (under Old o)) old) .0 (sym ended-old ∙ d)));
+        as-well-stopped = λ w d l. ended-new ∙ ended-stop w (ruled (pass (under New o)) (others old)) .1 (others-stop o old played-old w (ended-stop w (ruled (pass (under Old o)) old) .0 (sym ended-old ∙ d)) l);
+      }
+
+module _ (b : List ℕ) (rs : List Reply) where
+  -- of every order block and every list of replies
+  pub whole : Whole b rs (history b rs)
+  whole =
+      let l = latest-here b rs in
+      let r : Ruled (readOrder b) (history b rs .exchanges) = subst (Ruled (readOrder b)) (sym (is-played b rs)) (rules-hold (readOrder b) rs) in
+      let t : ended (history b rs .answers) ≡ ending (ruled (readOrder b) (history b rs .exchanges)) = l .so-ended in
+      let d = ended-done (ruled (readOrder b) (history b rs .exchanges)) in
+      let x : (w : Why) → (ended (history b rs .answers) ≡ as-stop w) ↔ (refusal (readOrder b) (history b rs .exchanges) ≡ found w) = λ w. let i = ended-stop w (ruled (readOrder b) (history b rs .exchanges)) in (λ e. r .stop-when w .0 (i .0 (sym t ∙ e)), λ e. t ∙ i .1 (r .stop-when w .1 e)) in
+      record {
+        played = is-played b rs;
         in-turn = l .in-turn;
         as-ruled = l .as-ruled;
         after-end = l .after-end;
@@ -402,16 +449,17 @@ module _ (b : List ℕ) (rs : List Reply) where
         stop-when = x;
         counted = l .counts;
         reported = l .reports ∙ l .counts;
-        all-good = good-ends;
+        all-good = good-ends b rs;
         is-valid = l .valid;
         never-stale = l .fresh;
-        room-lasts = λ o e m s f. room-lasts o (h .exchanges) m (read-sized b o e .all) (played-here o e) s (ap (λ (q : Outcome Order). refusal q (h .exchanges)) (sym e) ∙ x (because 10) .0 f);
-        never-skips = λ o e. (each-unskipped o (h .exchanges) (played-here o e), l .unskipped o e (played-here o e));
-        erases-rightly = λ o e. (each-rightly o (h .exchanges) (played-here o e), l .rightly o e (played-here o e));
-        writes-on-blank = λ o e. (each-on-blank o (h .exchanges) (played-here o e), l .on-blank o e (played-here o e));
-        only-opens = λ o e m s. (each-opens o (h .exchanges) m s (played-here o e), l .opening o e m s (played-here o e));
+        room-lasts = λ o e m s f. room-lasts o (history b rs .exchanges) m (read-sized b o e .all) (played-here b rs o e) s (ap (λ (q : Outcome Order). refusal q (history b rs .exchanges)) (sym e) ∙ x (because 10) .0 f);
+        never-skips = λ o e. (each-unskipped o (history b rs .exchanges) (played-here b rs o e), l .unskipped o e (played-here b rs o e));
+        erases-rightly = λ o e. (each-rightly o (history b rs .exchanges) (played-here b rs o e), l .rightly o e (played-here b rs o e));
+        writes-on-blank = λ o e. (each-on-blank o (history b rs .exchanges) (played-here b rs o e), l .on-blank o e (played-here b rs o e));
+        only-opens = λ o e m s. (each-opens o (history b rs .exchanges) m s (played-here b rs o e), l .opening o e m s (played-here b rs o e));
+        but-function-1 = λ o e t q c f. but-function-1 b rs o e q c f t;
         phase-so = l .phase-so;
-        shows = λ o e z. l .shows o e (played-here o e) z;
+        shows = λ o e z. l .shows o e (played-here b rs o e) z;
       }
 
 -- ---- what the calls owe, from their equations
@@ -423,6 +471,7 @@ takes b s e =
       step = e;
       begins = record { is-last = e; whole = whole b [] };
       script-length = λ o q. script-length o (read-sized b o q .all);
+      scripts-agree = λ o q. script-others o;
       needs = λ o q. needs-all o;
       can-pass = λ o q ok p d su. can-pass o (read-sized b o q) ok p d su;
     }

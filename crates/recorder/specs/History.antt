@@ -18,9 +18,11 @@ use Rattle.mmc.specs.ReplyBlock.{Reply, replyOf}
 use Rattle.mmc.specs.declared.units.TrackNumber.{TrackNumber}
 use Rattle.mmc.specs.declared.order.Order.{Order}
 use Rattle.mmc.specs.declared.order.Track.{Track}
+use Rattle.mmc.specs.declared.order.Kind.{Kind}
 use Rattle.mmc.specs.declared.order.Kind.the-variants.{Audio}
 use Rattle.mmc.specs.declared.order.Method.{Method}
 use Rattle.mmc.specs.declared.order.Method.the-variants.{Tao, Sao}
+use Rattle.mmc.specs.declared.order.Recipe.the-variants.{Old, New}
 use Rattle.recorder.specs.declared.script.Op.{Op}
 use Rattle.recorder.specs.declared.script.Op.the-variants.{ModeSelect, SendCueSheet, Blank}
 use Rattle.recorder.specs.declared.answers.Command.{Command}
@@ -37,6 +39,7 @@ use Rattle.recorder.specs.Replies.{ofDisc, ofInformation}
 use Rattle.recorder.specs.Places.{pieceOf}
 use Rattle.recorder.specs.Exchanges.{Exchange, read, gathered, recorded, occupied, polling, progress, profile, disc, erased, unblank, Named, named}
 use Rattle.recorder.specs.Rules.{cdRw, finalized, otherProfile, unsuitable, toCome, needed, used, notErasable, none, found, refusal, ruled, exchanged, play, orderedIn, AllClosed}
+use Rattle.recorder.specs.Recipes.{under, otherOps, others, latestOfFunction1, repliesIn, bytesGiven}
 use Rattle.recorder.specs.Job.{Next, nextIn, mostCommands, latestProgress, unchanged, validOf, idleRecorder, takeOf, giveOf}
 
 -- what the calls gave back since the order was taken: the last step; all answers, and the commands with the replies to them, the
@@ -238,6 +241,20 @@ lastEnd m a [] = a
 lastEnd m a (x ∷ []) = a + x .length .0
 lastEnd m a (x ∷ y ∷ xs) = lastEnd m (startAfter m (a + x .length .0)) (y ∷ xs)
 
+-- ---- "Two ways to close a track"
+
+-- a job by the old recipe, and one by the new of the same order, whose drive replies the same; what was replied to function 1 and to the polls
+-- after it is left out
+pub record ButFunction1 (o : Order) (old new : History) : Type 0 where
+  -- the new one has the same commands, with the same addresses, but those
+  pub exchanges : new .exchanges ≡ others (old .exchanges)
+  -- of the same bytes, and the same mode data goes with 55h
+  pub bytes : bytesGiven (under New o) (new .exchanges) ≡ bytesGiven o (others (old .exchanges))
+  pub page : (k : Kind) → modeData (under New o) k ≡ modeData o k
+  -- it is done where the old one is, and stops as the old one does at a reply to any other command
+  pub as-well-done : ended (old .answers) ≡ as-done → ended (new .answers) ≡ as-done
+  pub as-well-stopped : (w : Why) → ended (old .answers) ≡ as-stop w → latestOfFunction1 (old .exchanges) ≡ false → ended (new .answers) ≡ as-stop w
+
 -- ---- part 7
 
 -- "The exact count grows by 2 where an erasing took place"
@@ -314,6 +331,8 @@ pub record Whole (b : List ℕ) (rs : List Reply) (h : History) : Type 0 where
   pub writes-on-blank : (o : Order) → readOrder b ≡ pass o → Every (WritesOnBlank o) (h .exchanges) (h .last .answer)
   -- "audio in TAO is retired .. A job with one gets no command but 46h, 51h and 52h"
   pub only-opens : (o : Order) → readOrder b ≡ pass o → o .method ≡ Tao → HasAudio (tracksIn o) → Every (OnlyOpens o) (h .exchanges) (h .last .answer)
+  -- "0 the old, 1 the new without function 1": the recipes differ in nothing else. Of any replies, and a block c that holds the same order by the new one
+  pub but-function-1 : (o : Order) → readOrder b ≡ pass o → o .method ≡ Tao → o .recipe ≡ Old → (c : List ℕ) → readOrder c ≡ pass (under New o) → ButFunction1 o h (history c (repliesIn (others (h .exchanges))))
   -- what the panel shows: how the job stands, and while it goes on the progress of the polling under way
   pub phase-so : h .last .state .phase ≡ phaseIn (ended (h .answers))
   pub shows : (o : Order) → readOrder b ≡ pass o → ended (h .answers) ≡ going → latestProgress (h .last .state .progress) ≡ if (polling (o .immed) (h .exchanges)) (progress (h .exchanges)) 0
@@ -366,12 +385,13 @@ pub record OfHistory (b : List ℕ) (rs : List Reply) (s : Next) : Type 0 where
   pub is-last : s ≡ history b rs .last
   pub whole : Whole b rs (history b rs)
 
--- `take`: the plain job's step, demand 3 of the empty list of replies, the exact count, that what is needed is what such a drive takes, and
--- that replies exist for part 7
+-- `take`: the plain job's step, demand 3 of the empty list of replies, the exact count, that the scripts of the two recipes differ in function 1
+-- alone, that what is needed is what such a drive takes, and that replies exist for part 7
 pub record Takes (b : List ℕ) (s : Step) : Type 0 where
   pub step : nextIn s ≡ takeOf b
   pub begins : OfHistory b [] (nextIn s)
   pub script-length : (o : Order) → readOrder b ≡ pass o → length (script o) ≡ expected o
+  pub scripts-agree : (o : Order) → readOrder b ≡ pass o → otherOps (script (under Old o)) ≡ script (under New o)
   pub needs : (o : Order) → readOrder b ≡ pass o → (t a : ℕ) → a + needed o t ≡ lastEnd (o .method) a (toCome o t)
   pub can-pass : (o : Order) → readOrder b ≡ pass o → Recordable o → (p : ℕ) (d : DiscInformation) → Suitable o p d → (rs : List Reply) × Passing o p d rs
 
