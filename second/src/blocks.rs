@@ -1,7 +1,8 @@
 //! The 512-byte order and reply blocks.
 
 use crate::refusal::{require, Refusal};
-use crate::units::{Flags, Kind, Method, Order, Track, MOST_TRACKS};
+use crate::units::{Flags, Kind, Method, Order, Recipe, Track, MOST_TRACKS};
+use std::ops::Range;
 
 pub const BLOCK: usize = 512;
 /// The check stands in bytes 510 and 511.
@@ -12,6 +13,9 @@ pub const MOST_DATA: usize = 506;
 /// Rows of an order and data of a reply start at byte 4.
 const HEAD: usize = 4;
 const ROW: usize = 5;
+/// The recipe of an order stands behind the room of its 99 rows (document 02,
+/// Ask 7).
+pub const RECIPE: usize = 499;
 const ORDER_TYPE: u8 = 1;
 const REPLY_TYPE: u8 = 2;
 
@@ -83,8 +87,8 @@ fn open(bytes: &[u8]) -> Result<&[u8; BLOCK], Refusal> {
 }
 
 /// Number 3: all else up to byte 509 is 0.
-fn check_padding(block: &[u8; BLOCK], from: usize) -> Result<(), Refusal> {
-    let zeros = block[from..CHECK].iter().all(|&byte| byte == 0);
+fn check_padding(block: &[u8; BLOCK], places: Range<usize>) -> Result<(), Refusal> {
+    let zeros = block[places].iter().all(|&byte| byte == 0);
     require(zeros, Refusal::Field)
 }
 
@@ -108,17 +112,22 @@ pub fn read_order(bytes: &[u8]) -> Result<Order, Refusal> {
     let tracks = rows
         .map(read_row)
         .collect::<Result<Vec<Track>, Refusal>>()?;
-    check_padding(block, end)?;
-    Ok(Order {
+    check_padding(block, end..RECIPE)?;
+    let recipe = Recipe::from_byte(block[RECIPE]).ok_or(Refusal::Field)?;
+    check_padding(block, RECIPE + 1..CHECK)?;
+    let order = Order {
         method,
         flags,
         tracks,
-    })
+        recipe,
+    };
+    order.check_fields()?;
+    Ok(order)
 }
 
 /// Makes an order block; refuses with 3.
 pub fn order_block(order: &Order) -> Result<[u8; BLOCK], Refusal> {
-    order.check_count()?;
+    order.check_fields()?;
     let mut block = [0; BLOCK];
     block[0] = ORDER_TYPE;
     block[1] = order.method.byte();
@@ -128,6 +137,7 @@ pub fn order_block(order: &Order) -> Result<[u8; BLOCK], Refusal> {
         row[0] = track.kind.byte();
         row[1..].copy_from_slice(&track.length.to_be_bytes());
     }
+    block[RECIPE] = order.recipe.byte();
     seal(&mut block);
     Ok(block)
 }
@@ -140,7 +150,7 @@ pub fn read_reply(bytes: &[u8]) -> Result<Reply, Refusal> {
     let length = usize::from(u16::from_be_bytes([block[2], block[3]]));
     require(length <= MOST_DATA, Refusal::Field)?;
     let end = HEAD + length;
-    check_padding(block, end)?;
+    check_padding(block, end..CHECK)?;
     Ok(Reply {
         status,
         data: block[HEAD..end].to_vec(),
@@ -173,6 +183,7 @@ mod tests {
                 .iter()
                 .map(|&(kind, length)| Track { kind, length })
                 .collect(),
+            recipe: Recipe::default(),
         }
     }
 
@@ -229,6 +240,58 @@ mod tests {
         assert!(immed.flags.immed && !immed.flags.keep && !immed.flags.protect);
         let erase = order(Method::Sao, 8, &[(Kind::Data, 300)]);
         assert!(erase.flags.erase && !immed.flags.erase && !erase.flags.immed);
+    }
+
+    /// Document 02, Ask 7: byte 499 is 0 or 1, and 1 with TAO alone. Where 99
+    /// rows end right before it, it is no part of them.
+    #[test]
+    fn recipe_bytes() {
+        for (method, count) in [
+            (Method::Tao, 1),
+            (Method::Tao, 99),
+            (Method::Sao, 2),
+            (Method::Sao, 99),
+        ] {
+            let old = order(method, 5, &vec![(Kind::Data, 300); count]);
+            for byte in 0..=255 {
+                let mut block = order_block(&old).unwrap();
+                assert_eq!(block[499], 0);
+                block[499] = byte;
+                assert!(byte == 0 || read_order(&block) == Err(Refusal::Check));
+                seal(&mut block);
+                let mut expected = old.clone();
+                match (byte, method) {
+                    (0, _) => {}
+                    (1, Method::Tao) => expected.recipe = Recipe::New,
+                    _ => {
+                        assert_eq!(read_order(&block), Err(Refusal::Field));
+                        continue;
+                    }
+                }
+                assert_eq!(read_order(&block), Ok(expected.clone()));
+                assert_eq!(order_block(&expected), Ok(block));
+            }
+        }
+        let mut sao = order(Method::Sao, 0, &[(Kind::Data, 300)]);
+        sao.recipe = Recipe::New;
+        assert_eq!(order_block(&sao), Err(Refusal::Field));
+    }
+
+    /// All else up to byte 509 is 0, on both sides of the recipe.
+    #[test]
+    fn padding_around_the_recipe() {
+        for recipe in [Recipe::Old, Recipe::New] {
+            let mut order = many(1);
+            order.recipe = recipe;
+            let good = order_block(&order).unwrap();
+            assert_eq!(read_order(&good), Ok(order));
+            for place in (9..499).chain(500..510) {
+                let mut block = good;
+                block[place] = 1;
+                seal(&mut block);
+                assert_eq!(read_order(&block), Err(Refusal::Field));
+            }
+        }
     }
 
     #[test]

@@ -1,7 +1,8 @@
 //! The plain job of document 01, "Recording rules", with the polling and the
 //! erasing of document 02, Asks 1 and 2, what Ask 6 charges for the room between
-//! tracks, and Ask 12's end of audio in TAO: an order is taken, then replies are
-//! given; each time a command, the end as done, or a refusal comes out.
+//! tracks, Ask 7's two recipes, and Ask 12's end of audio in TAO: an order is
+//! taken, then replies are given; each time a command, the end as done, or a
+//! refusal comes out.
 //!
 //! The job is a flat list of steps with a place in it. The three opening
 //! steps stand there from the start; the others are laid down once the third
@@ -16,7 +17,9 @@ use crate::commands::{self, Bytes, CLOSE_SESSION, CLOSE_TRACK, MOST_BLOCKS};
 use crate::refusal::{require, Refusal};
 use crate::replies::{self, Disc, DiscInformation, Failure, TrackInformation};
 use crate::sheet::{ENTRY, MORE_ENTRIES};
-use crate::units::{check_lead_out, Address, BlockCount, Method, Order, TrackNumber, PAUSE_START};
+use crate::units::{
+    check_lead_out, Address, BlockCount, Method, Order, Recipe, TrackNumber, PAUSE_START,
+};
 
 /// The pause ahead of track 1 in SAO.
 const PAUSE: u64 = 150;
@@ -65,6 +68,7 @@ pub enum Step {
     Write(Blocks),
     /// In SAO with the last track's index.
     SynchronizeCache(usize),
+    /// 5Bh function 1, under recipe 0 alone.
     CloseTrack(usize),
     CloseSession,
     TestUnitReady,
@@ -414,8 +418,9 @@ fn recording(order: &Order) -> Vec<Step> {
     }
 }
 
-/// TAO, each track: 52h before each but the first; 55h; WRITEs; 35h; 5Bh
-/// function 1. After the last track: 5Bh function 2. Pollings come behind.
+/// TAO, each track: 52h before each but the first; 55h; WRITEs; 35h; under
+/// recipe 0 5Bh function 1. After the last track: 5Bh function 2. Pollings come
+/// behind.
 fn tao(order: &Order) -> Vec<Step> {
     let mut steps = Vec::new();
     for (index, track) in order.tracks.iter().enumerate() {
@@ -425,7 +430,10 @@ fn tao(order: &Order) -> Vec<Step> {
         steps.push(Step::ModeSelect(index));
         steps.extend(writes(number(index), track.length.into()));
         steps.extend(polled(order, Step::SynchronizeCache(index)));
-        steps.extend(polled(order, Step::CloseTrack(index)));
+        match order.recipe {
+            Recipe::Old => steps.extend(polled(order, Step::CloseTrack(index))),
+            Recipe::New => {}
+        }
     }
     steps.extend(polled(order, Step::CloseSession));
     steps

@@ -10,7 +10,7 @@ use crate::refusal::{lend, Refusal};
 use crate::sheet::{read_sheet, sheet};
 use crate::times::{address_of, time_of, Time};
 use crate::units::{
-    Address, BlockCount, Flags, Kind, Method, Order, Track, TrackNumber, MOST_TRACKS,
+    Address, BlockCount, Flags, Kind, Method, Order, Recipe, Track, TrackNumber, MOST_TRACKS,
 };
 use std::str::FromStr;
 
@@ -72,13 +72,15 @@ fn address_answer(words: &[&str]) -> Option<Result<String, Refusal>> {
     Some(address_of(time).map(|address| address.0.to_string()))
 }
 
+/// Method, flags, count, kind and length of each track, recipe.
 fn order_words(order: &Order) -> String {
     let tracks = order.tracks.iter();
     let tracks: String = tracks
         .map(|t| format!(" {} {}", t.kind.byte(), t.length))
         .collect();
     let (method, flags) = (order.method.byte(), order.flags.byte());
-    format!("{method} {flags} {}{tracks}", order.tracks.len())
+    let (count, recipe) = (order.tracks.len(), order.recipe.byte());
+    format!("{method} {flags} {count}{tracks} {recipe}")
 }
 
 fn reply_words(reply: &Reply) -> String {
@@ -147,20 +149,25 @@ fn make_command(name: &str, words: &[&str]) -> Option<Made> {
     Some(bytes.map(|bytes| bytes.to_vec()))
 }
 
-/// Method, flags, count, and a kind and length for each of up to 99 tracks.
+/// Method, flags, count, a kind and length for each of up to 99 tracks, and the
+/// recipe, which is 0 where it is left out.
 pub fn order(words: &[&str]) -> Option<Order> {
-    let [method, flags, count, pairs @ ..] = words else {
+    let [method, flags, count, rest @ ..] = words else {
         return None;
     };
     let count = usize::from(number::<u8>(count)?);
-    if pairs.len() != 2 * count.min(MOST_TRACKS) {
-        return None;
-    }
+    let (pairs, recipe) = rest.split_at_checked(2 * count.min(MOST_TRACKS))?;
+    let recipe = match recipe {
+        [] => Recipe::default(),
+        [recipe] => Recipe::from_byte(number(recipe)?)?,
+        _ => return None,
+    };
     let tracks = pairs.chunks_exact(2).map(|pair| track(pair[0], pair[1]));
     let mut order = Order {
         method: Method::from_byte(number(method)?)?,
         flags: Flags::from_byte(number(flags)?)?,
         tracks: tracks.collect::<Option<Vec<Track>>>()?,
+        recipe,
     };
     // A count over 99 lists 99 tracks; what the others are doesn't matter.
     order.tracks.resize(
@@ -276,17 +283,17 @@ mod tests {
         assert!(written.starts_with("ok 01 02 00 01 01 00 00 01 2C 00"));
         assert!(written.ends_with(" 00 00 32"));
         let read = written.replacen("ok", "order-read", 1);
-        assert_eq!(answer(&read), "ok 2 0 1 1 300");
+        assert_eq!(answer(&read), "ok 2 0 1 1 300 0");
         let immed = answer("order-write 512 2 4 1 1 300");
         assert!(immed.starts_with("ok 01 02 04 01 01 00 00 01 2C 00"));
         assert!(immed.ends_with(" 00 00 36"));
         let read = immed.replacen("ok", "order-read", 1);
-        assert_eq!(answer(&read), "ok 2 4 1 1 300");
+        assert_eq!(answer(&read), "ok 2 4 1 1 300 0");
         let erase = answer("order-write 512 2 12 1 1 300");
         assert!(erase.starts_with("ok 01 02 0C 01 01 00 00 01 2C 00"));
         assert!(erase.ends_with(" 00 00 3E"));
         let read = erase.replacen("ok", "order-read", 1);
-        assert_eq!(answer(&read), "ok 2 12 1 1 300");
+        assert_eq!(answer(&read), "ok 2 12 1 1 300 0");
         let flags_16 = read.replacen("01 02 0C", "01 02 10", 1);
         assert_eq!(answer(&flags_16.replace("00 3E", "00 42")), "refused 3");
         assert_eq!(answer("order-write 1 2 0 0"), "refused 3 A5");
@@ -309,12 +316,53 @@ mod tests {
         for order in ["1 8 1 0 300", "1 3 3 1 300 0 4294967295 1 301"] {
             let written = answer(&format!("order-write 512 {order}"));
             let read = written.replacen("ok", "order-read", 1);
-            assert_eq!(answer(&read), format!("ok {order}"));
+            assert_eq!(answer(&read), format!("ok {order} 0"));
             assert!(answer(&format!("page 60 0 {order}")).starts_with("ok "));
             assert_eq!(answer(&format!("sheet 0 {order}")), "refused 3 -");
         }
         let page = "ok 00 00 00 00 00 00 00 00 05 32 41 C0 00 00";
         assert!(answer("page 60 0 1 3 1 0 300").starts_with(page));
+    }
+
+    /// Document 02, Ask 7: the recipe stands behind the tracks, and left out it
+    /// is 0. Recipe 1 with SAO is 3, ahead of 8 and 11.
+    #[test]
+    fn recipes() {
+        for order in ["1 0 1 1 300", "1 13 3 1 300 0 4294967295 1 301"] {
+            let old = answer(&format!("order-write 512 {order}"));
+            assert_eq!(answer(&format!("order-write 512 {order} 0")), old);
+            let new = answer(&format!("order-write 512 {order} 1"));
+            let (old, new) = (hex_words(&old), hex_words(&new));
+            let differ: Vec<usize> = (0..510).filter(|&at| old[at] != new[at]).collect();
+            assert_eq!((differ, new[499]), (vec![499], "01"));
+            let read = format!("order-read {}", new.join(" "));
+            assert_eq!(answer(&read), format!("ok {order} 1"));
+            for kind in 0..2 {
+                let page = answer(&format!("page 60 {kind} {order}"));
+                assert!(page.starts_with("ok "));
+                assert_eq!(answer(&format!("page 60 {kind} {order} 1")), page);
+            }
+            assert_eq!(answer(&format!("sheet 0 {order} 1")), "refused 3 -");
+        }
+        for flags in 0..16 {
+            let order = format!("2 {flags} 1 1 300 1");
+            assert_eq!(answer(&format!("order-write 0 {order}")), "refused 3 -");
+            assert_eq!(answer(&format!("page 0 1 {order}")), "refused 3 -");
+            assert_eq!(answer(&format!("sheet 0 {order}")), "refused 3 -");
+        }
+        let pairs = " 1 300".repeat(99);
+        let full = answer(&format!("order-write 512 1 0 99{pairs} 1"));
+        assert_eq!(hex_words(&full)[498..501], ["2C", "01", "00"]);
+        for count in [100, 255] {
+            let request = format!("order-write 0 1 0 {count}{pairs} 1");
+            assert_eq!(answer(&request), "refused 3 -");
+        }
+        assert_eq!(answer("order-write 0 1 0 0 1"), "refused 3 -");
+    }
+
+    /// The bytes of an `ok` answer.
+    fn hex_words(answer: &str) -> Vec<&str> {
+        answer.strip_prefix("ok ").unwrap().split(' ').collect()
     }
 
     #[test]
@@ -363,6 +411,17 @@ mod tests {
             "order-write 512 1 16 1 0 300",
             "order-write 512 1 0 2 0 300",
             "order-write 512 1 0 1 2 300",
+            "order-write 512 1 0 1 0 300 2",
+            "order-write 512 1 0 1 0 300 255",
+            "order-write 512 1 0 1 0 300 256",
+            "order-write 512 1 0 1 0 300 -1",
+            "order-write 512 1 0 1 0 300 x",
+            "order-write 512 1 0 1 0 300 1 0",
+            "order-write 512 1 0 1 0 300 0 0",
+            "order-write 512 1 0 1 1",
+            "sheet 32 2 0 1 0 300 2",
+            "page 60 0 1 0 1 0 300 2",
+            "page 60 0 1 0 1 0 300 1 1",
             "write 10 0 -1",
             "mode-select",
             "mode-select 10 1",

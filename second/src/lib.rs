@@ -1,6 +1,7 @@
 //! An independent second program for document 01 ("What we will build and its
-//! rules") and document 02's polling (Ask 1), erasing (Ask 2) and CD-TEXT (Ask
-//! 4), written without sight of the program that it is compared with.
+//! rules") and document 02's polling (Ask 1), erasing (Ask 2), CD-TEXT (Ask 4)
+//! and recipes (Ask 7), written without sight of the program that it is compared
+//! with.
 //!
 //! The rules live in `units`, `refusal`, `blocks`, `times`, `page`, `sheet`,
 //! `commands`, `replies`, `job`, `follow`, `print`, `watch` and `cdtext`.

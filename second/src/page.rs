@@ -11,7 +11,7 @@ const AUDIO_PAUSE: u8 = 150;
 /// Makes the mode data of an order for a track of a kind. Refuses with 3 for
 /// an order that no block holds, with 8 for SAO with keep appendable.
 pub fn mode_data(order: &Order, kind: Kind) -> Result<[u8; MODE_DATA], Refusal> {
-    order.check_count()?;
+    order.check_fields()?;
     order.check_keep()?;
     let mut bytes = [0; MODE_DATA];
     let page = &mut bytes[HEADER..];
@@ -64,7 +64,7 @@ fn block_type(kind: Kind) -> u8 {
 #[cfg(test)]
 mod tests {
     use super::*;
-    use crate::units::{Flags, Track};
+    use crate::units::{Flags, Recipe, Track};
 
     fn order(method: Method, flags: u8, count: usize) -> Order {
         let track = Track {
@@ -75,6 +75,7 @@ mod tests {
             method,
             flags: Flags::from_byte(flags).unwrap(),
             tracks: vec![track; count],
+            recipe: Recipe::default(),
         }
     }
 
@@ -109,5 +110,22 @@ mod tests {
         assert_eq!(make(Method::Tao, 0, 100), Err(Refusal::Field));
         assert_eq!(make(Method::Sao, 1, 1), Err(Refusal::SessionAtOnce));
         assert_eq!(make(Method::Sao, 3, 99), Err(Refusal::SessionAtOnce));
+    }
+
+    /// Document 02, Ask 7: recipe 1 changes no page, and with SAO is 3 ahead of
+    /// 8.
+    #[test]
+    fn recipes() {
+        for flags in 0..16 {
+            for kind in [Kind::Audio, Kind::Data] {
+                let old = order(Method::Tao, flags, 2);
+                let mut new = old.clone();
+                new.recipe = Recipe::New;
+                assert_eq!(mode_data(&new, kind), mode_data(&old, kind));
+                assert!(mode_data(&new, kind).is_ok());
+                new.method = Method::Sao;
+                assert_eq!(mode_data(&new, kind), Err(Refusal::Field));
+            }
+        }
     }
 }

@@ -2,7 +2,9 @@
 
 use crate::refusal::{require, Refusal};
 use crate::times::{address_of, time_of, Time};
-use crate::units::{check_lead_out, Address, BlockCount, Flags, Kind, Method, Order, Track};
+use crate::units::{
+    check_lead_out, Address, BlockCount, Flags, Kind, Method, Order, Recipe, Track,
+};
 
 pub const ENTRY: usize = 8;
 /// Lead-in, pause and lead-out come besides one entry a track.
@@ -12,7 +14,7 @@ const LEAD_OUT: u8 = 0xAA;
 /// Makes the cue sheet of an SAO order; refuses with 3 (a TAO order too), 8,
 /// 9, or 10 for the lead-out limit alone.
 pub fn sheet(order: &Order) -> Result<Vec<u8>, Refusal> {
-    order.check_count()?;
+    order.check_fields()?;
     require(order.method == Method::Sao, Refusal::Field)?;
     order.check_session()?;
     order.check_lengths()?;
@@ -82,6 +84,7 @@ pub fn read_sheet(bytes: &[u8]) -> Result<(Kind, Vec<u32>), Refusal> {
             .iter()
             .map(|&length| Track { kind, length })
             .collect(),
+        recipe: Recipe::default(),
     };
     let same = sheet(&order).is_ok_and(|made| made == bytes);
     require(same, Refusal::NoSheet)?;
@@ -132,6 +135,7 @@ mod tests {
                 .iter()
                 .map(|&length| Track { kind, length })
                 .collect(),
+            recipe: Recipe::default(),
         }
     }
 
@@ -194,6 +198,21 @@ mod tests {
         assert_eq!(sheet(&order), Err(Refusal::Fit));
         order.tracks.clear();
         assert_eq!(sheet(&order), Err(Refusal::Field));
+    }
+
+    /// Document 02, Ask 7: recipe 1 is 3 with SAO, ahead of 8, 9 and 10, and
+    /// so is all of TAO.
+    #[test]
+    fn recipe_1_has_no_sheet() {
+        for lengths in [&[300][..], &[299], &[404_850], &[]] {
+            let mut order = order(Kind::Data, lengths);
+            order.recipe = Recipe::New;
+            assert_eq!(sheet(&order), Err(Refusal::Field));
+            order.flags.keep = true;
+            assert_eq!(sheet(&order), Err(Refusal::Field));
+            order.method = Method::Tao;
+            assert_eq!(sheet(&order), Err(Refusal::Field));
+        }
     }
 
     #[test]

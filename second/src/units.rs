@@ -121,6 +121,33 @@ impl Flags {
     }
 }
 
+/// How a TAO track is closed (document 02, Ask 7).
+#[derive(Clone, Copy, Default, PartialEq, Eq, Debug)]
+pub enum Recipe {
+    /// That up to December 2009: 35h, then 5Bh function 1.
+    #[default]
+    Old,
+    /// That of the newer drives: 35h alone.
+    New,
+}
+
+impl Recipe {
+    pub fn from_byte(byte: u8) -> Option<Recipe> {
+        match byte {
+            0 => Some(Recipe::Old),
+            1 => Some(Recipe::New),
+            _ => None,
+        }
+    }
+
+    pub fn byte(self) -> u8 {
+        match self {
+            Recipe::Old => 0,
+            Recipe::New => 1,
+        }
+    }
+}
+
 #[derive(Clone, Copy, PartialEq, Eq, Debug)]
 pub struct Track {
     pub kind: Kind,
@@ -128,16 +155,31 @@ pub struct Track {
     pub length: u32,
 }
 
-/// An order of tracks. Its count of tracks may be one that no order block
-/// has; `check_count` tells.
+/// An order of tracks. Its count of tracks, or its recipe beside its method,
+/// may be one that no order block has; `check_fields` tells.
 #[derive(Clone, PartialEq, Eq, Debug)]
 pub struct Order {
     pub method: Method,
     pub flags: Flags,
     pub tracks: Vec<Track>,
+    pub recipe: Recipe,
 }
 
 impl Order {
+    /// Number 3, of the fields that the types leave open.
+    pub fn check_fields(&self) -> Result<(), Refusal> {
+        self.check_count()?;
+        self.check_recipe()
+    }
+
+    /// Number 3: recipe 1 goes with TAO alone (document 02, Ask 7).
+    pub fn check_recipe(&self) -> Result<(), Refusal> {
+        require(
+            self.method == Method::Tao || self.recipe == Recipe::Old,
+            Refusal::Field,
+        )
+    }
+
     /// Number 3: 1 to 99 tracks.
     pub fn check_count(&self) -> Result<(), Refusal> {
         require(
@@ -211,6 +253,36 @@ mod tests {
             method,
             flags: Flags::default(),
             tracks: tracks.collect(),
+            recipe: Recipe::default(),
+        }
+    }
+
+    /// Recipes 0 and 1 have a byte, and no other byte has a recipe.
+    #[test]
+    fn recipe_bytes() {
+        assert_eq!(Recipe::from_byte(0), Some(Recipe::Old));
+        assert_eq!(Recipe::from_byte(1), Some(Recipe::New));
+        assert!((2..=255).all(|byte| Recipe::from_byte(byte).is_none()));
+        assert_eq!([Recipe::Old, Recipe::New].map(Recipe::byte), [0, 1]);
+        assert_eq!(Recipe::default(), Recipe::Old);
+    }
+
+    /// Recipe 1 with SAO is 3, as a count of tracks is that no block has.
+    #[test]
+    fn the_fields_of_an_order() {
+        for (count, counts) in [(0, false), (1, true), (99, true), (100, false)] {
+            for (method, recipe, goes) in [
+                (Method::Tao, Recipe::Old, true),
+                (Method::Tao, Recipe::New, true),
+                (Method::Sao, Recipe::Old, true),
+                (Method::Sao, Recipe::New, false),
+            ] {
+                let mut order = order(method, &vec![300; count]);
+                order.recipe = recipe;
+                let passes = |good: bool| if good { Ok(()) } else { Err(Refusal::Field) };
+                assert_eq!(order.check_recipe(), passes(goes));
+                assert_eq!(order.check_fields(), passes(counts && goes));
+            }
         }
     }
 

@@ -18,7 +18,7 @@
 
 use second::blocks::{self, Reply, Status, BLOCK, MOST_DATA};
 use second::hex;
-use second::units::{Flags, Kind, Method, Order, Track, MOST_TRACKS};
+use second::units::{Flags, Kind, Method, Order, Recipe, Track, MOST_TRACKS};
 use second::wellformed::{
     busy_reply, disc_reply, profile_reply, progress_reply, sense_reply, track_reply, TrackFields,
 };
@@ -149,6 +149,7 @@ fn parse_order(words: &[&str]) -> Parsed<Order> {
         method,
         flags,
         tracks,
+        recipe: Recipe::default(),
     };
     order.check_count().map_err(|_| track_count_error())?;
     Ok(order)

@@ -11,7 +11,9 @@ use second::commands::{
 };
 use second::job::{Answer, Command, Job};
 use second::rng::Rng;
-use second::units::{Flags, Kind, Method, Order, Track, BETWEEN_TRACKS, LAST_ADDRESS, MOST_TRACKS};
+use second::units::{
+    Flags, Kind, Method, Order, Recipe, Track, BETWEEN_TRACKS, LAST_ADDRESS, MOST_TRACKS,
+};
 use second::wellformed::{
     busy_reply, disc_reply, profile_reply, sense_reply, track_reply, TrackFields,
 };
@@ -57,6 +59,7 @@ fn order(rng: &mut Rng, notes: &mut Vec<String>) -> Order {
         method,
         flags,
         tracks: tracks.collect(),
+        recipe: Recipe::default(),
     }
 }
 

@@ -4,7 +4,7 @@
 use second::blocks::{order_block, reply_block, seal, Reply, Status, BLOCK, MOST_DATA};
 use second::hex;
 use second::rng::Rng;
-use second::units::{Flags, Kind, Method, Order, Track, LAST_ADDRESS, MOST_TRACKS};
+use second::units::{Flags, Kind, Method, Order, Recipe, Track, LAST_ADDRESS, MOST_TRACKS};
 
 const LIMIT: u32 = LAST_ADDRESS as u32;
 /// The limit of document 01, before Ask 3 of document 02.
@@ -103,6 +103,7 @@ fn any_order(rng: &mut Rng) -> Order {
         method,
         flags,
         tracks,
+        recipe: Recipe::default(),
     }
 }
 
@@ -532,6 +533,7 @@ fn simple_order(method: Method, flags: u8, count: usize, length: u32) -> Order {
             };
             count
         ],
+        recipe: Recipe::default(),
     }
 }
 
@@ -570,6 +572,7 @@ fn order_corners(list: &mut Vec<String>) {
         tracks: [(Kind::Data, 300), (Kind::Audio, u32::MAX), (Kind::Data, 0)]
             .map(|(kind, length)| Track { kind, length })
             .to_vec(),
+        recipe: Recipe::default(),
     };
     for order in [order, simple_order(Method::Sao, 0, 99, 0x0102_0304)] {
         let block = order_block(&order).unwrap_or([0; BLOCK]);
@@ -1071,7 +1074,7 @@ mod tests {
             };
             let written = asked(format!("order-write 512 {words}"));
             let read = asked(written.replacen("ok", "order-read", 1));
-            assert_eq!(read, format!("ok {words}"));
+            assert_eq!(read, format!("ok {words} 0"));
             for kind in KINDS {
                 let page = asked(format!("page 60 {} {words}", kind.byte()));
                 assert!(page.starts_with("ok "), "{words}");
