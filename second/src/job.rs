@@ -768,6 +768,89 @@ mod tests {
         assert_eq!((answer, job.count()), (Answer::Done, 16 + 99 * 19));
     }
 
+    /// Document 02, Ask 7: 3n+3+W commands under recipe 1.
+    #[test]
+    fn recipe_1_counts() {
+        let (job, answer, _) = run("tao recipe 1 data 300", 0, &[track(0, 300)]);
+        assert_eq!((answer, job.count()), (Answer::Done, 25));
+        let infos = [track(7, 617 + 152), track(307, 317)];
+        let (job, answer, _) = run("tao recipe 1 data 300 data 317", 1, &infos);
+        assert_eq!((answer, job.count()), (Answer::Done, 48));
+        let many = format!("tao recipe 1{}", " data 301".repeat(99));
+        let infos: Vec<Reply> = (0..99).map(|i| track(5 + 302 * i, 45_000)).collect();
+        let (job, answer, _) = run(&many, 0, &infos);
+        assert_eq!((answer, job.count()), (Answer::Done, 3 * 99 + 3 + 99 * 19));
+        let full = stop("tao recipe 1 data 404849", 0, track(0, u32::MAX));
+        assert_eq!(full, (Answer::Done, 3 + 3 + 25_304));
+    }
+
+    /// After a track's 35h the next 52h, and behind the last the 5Bh function 2;
+    /// function 1 is left out, and all else is as under recipe 0.
+    #[test]
+    fn recipe_1_steps() {
+        for flags in 0..16 {
+            let mut block = order("tao data 300 data 317 data 301");
+            block[2] = flags;
+            seal(&mut block);
+            let old = read_order(&block).unwrap();
+            block[499] = 1;
+            seal(&mut block);
+            let new = read_order(&block).unwrap();
+            assert_eq!(new.recipe, Recipe::New);
+            let (mut old, new) = (recording(&old), recording(&new));
+            for index in 0..3 {
+                let polls = if flags & 4 != 0 { 2 } else { 0 };
+                let close = Step::CloseTrack(index);
+                let place = old.iter().position(|&step| step == close).unwrap();
+                old.drain(place..=place + polls);
+            }
+            assert_eq!(old, new);
+            let behind = |step| {
+                let place = new.iter().position(|&other| other == step).unwrap();
+                new[place + if flags & 4 != 0 { 3 } else { 1 }]
+            };
+            let next = behind(Step::SynchronizeCache(0));
+            assert_eq!(next, Step::ReadTrackInformation(1));
+            assert_eq!(behind(Step::SynchronizeCache(2)), Step::CloseSession);
+        }
+    }
+
+    /// The 52h right behind a 35h is judged for 4, 7 and 10 as any later one, and
+    /// the track starts at its address.
+    #[test]
+    fn recipe_1_later_52h() {
+        let line = "tao recipe 1 data 300 data 301";
+        let second = |info| run(line, 0, &[track(1_000, 753), info]);
+        let (job, answer, writes) = second(track(1_300, 301));
+        assert_eq!((answer, job.count()), (Answer::Done, 3 * 2 + 3 + 38));
+        assert_eq!((writes[18].0, writes[19].0), (1_288, 1_300));
+        for (info, refusal) in [
+            (Reply::good(&[0; 27]), Refusal::Reply),
+            (damaged(), Refusal::TrackInformation),
+            (track(1_299, 301), Refusal::TrackInformation),
+            (track(1_300, 300), Refusal::Fit),
+        ] {
+            let (job, answer, _) = second(info);
+            // 46h, 51h, 52h, 55h, 19 WRITEs, 35h, 52h.
+            assert_eq!((answer, job.count()), (refused(refusal), 25));
+        }
+    }
+
+    /// Byte 499 of other values, and recipe 1 with SAO: the job ends at once.
+    #[test]
+    fn recipes_refused() {
+        for (line, bytes) in [("tao data 300", 2..=255), ("sao data 300", 1..=255)] {
+            for byte in bytes {
+                let mut block = order(line);
+                block[499] = byte;
+                assert_eq!(Job::take(&block).1, refused(Refusal::Check));
+                seal(&mut block);
+                let (job, answer) = Job::take(&block);
+                assert_eq!((answer, job.count()), (refused(Refusal::Field), 0));
+            }
+        }
+    }
+
     /// The lowest applying number is given: 5 to 10 after the third reply.
     #[test]
     fn numbers_in_order() {

@@ -3,6 +3,7 @@
 //! ```text
 //! # a comment
 //! order tao keep protect immed erase data 300 data 317
+//! order tao recipe 1 keep data 300   (0 or 1, ahead of the flags; left out: 0)
 //! good profile 0009
 //! good disc blank            (or appendable, finalized, other; then: erasable)
 //! good track nwa 0 free 300000   (then: damaged, no-address)
@@ -109,7 +110,8 @@ fn parse_block(words: &[&str]) -> Parsed<Vec<u8>> {
     match words {
         ["order", rest @ ..] => {
             let block = blocks::order_block(&parse_order(rest)?);
-            block.map(Vec::from).map_err(|_| track_count_error())
+            let error = "no block holds this order";
+            block.map(Vec::from).map_err(|_| error.to_string())
         }
         ["block", rest @ ..] => match hex::bytes(rest) {
             Some(bytes) if (1..=BLOCK).contains(&bytes.len()) => Ok(bytes),
@@ -137,7 +139,11 @@ fn parse_order(words: &[&str]) -> Parsed<Order> {
         ["sao", rest @ ..] => (Method::Sao, rest),
         _ => return Err("an order starts with `tao` or `sao`".to_string()),
     };
+    let (recipe, words) = parse_recipe(words)?;
     let (flags, words) = parse_flags(words)?;
+    if words.contains(&"recipe") {
+        return Err("`recipe` stands once, right after `tao` or `sao`".to_string());
+    }
     if words.len() % 2 != 0 {
         return Err("each track is a kind and a length".to_string());
     }
@@ -149,10 +155,23 @@ fn parse_order(words: &[&str]) -> Parsed<Order> {
         method,
         flags,
         tracks,
-        recipe: Recipe::default(),
+        recipe,
     };
+    let recipe_error = |_| "recipe 1 goes with `tao` only".to_string();
+    order.check_recipe().map_err(recipe_error)?;
     order.check_count().map_err(|_| track_count_error())?;
     Ok(order)
+}
+
+/// The recipe, and what follows it; 0 where it is left out.
+fn parse_recipe<'a, 'b>(words: &'a [&'b str]) -> Parsed<(Recipe, &'a [&'b str])> {
+    match words {
+        ["recipe", "0", rest @ ..] => Ok((Recipe::Old, rest)),
+        ["recipe", "1", rest @ ..] => Ok((Recipe::New, rest)),
+        ["recipe", other, ..] => Err(format!("`{other}` is no recipe; 0 and 1 are")),
+        ["recipe"] => Err("`recipe` is followed by 0 or 1".to_string()),
+        _ => Ok((Recipe::default(), words)),
+    }
 }
 
 fn parse_flags<'a, 'b>(mut words: &'a [&'b str]) -> Parsed<(Flags, &'a [&'b str])> {
@@ -333,6 +352,9 @@ fn order_line(order: &Order) -> String {
         Method::Tao => "tao".to_string(),
         Method::Sao => "sao".to_string(),
     });
+    if order.recipe != Recipe::default() {
+        words.push(format!("recipe {}", order.recipe.byte()));
+    }
     let flags = &order.flags;
     for (set, word) in [
         (flags.keep, "keep"),
@@ -455,6 +477,8 @@ order sao immed audio 300
 order tao keep protect immed data 300
 order tao keep protect immed erase data 300
 order sao erase audio 300
+order tao recipe 1 data 300
+order tao recipe 1 keep protect immed erase data 300 audio 317
 good disc blank erasable
 good disc finalized erasable
 good disc other
@@ -464,8 +488,75 @@ block 02 00 00
     #[test]
     fn text_to_blocks_and_back() {
         let bytes = blocks_of(SAMPLE).unwrap();
-        assert_eq!(bytes.len(), 44 * BLOCK + 3);
+        assert_eq!(bytes.len(), 46 * BLOCK + 3);
         assert_eq!(text_of(&bytes), SAMPLE);
+    }
+
+    /// Document 02, Ask 7: the recipe stands right after the method. Recipe 0 is
+    /// left out on the way back, so that old lines stay.
+    #[test]
+    fn recipes() {
+        for rest in ["data 300", "keep protect immed erase data 300 data 317"] {
+            for method in ["tao", "sao"] {
+                let plain = format!("order {method} {rest}\n");
+                let old = blocks_of(&plain).unwrap();
+                assert_eq!(old[499], 0);
+                let named = format!("order {method} recipe 0 {rest}\n");
+                assert_eq!(blocks_of(&named).unwrap(), old);
+                assert_eq!(text_of(&old), plain);
+            }
+            let line = format!("order tao recipe 1 {rest}\n");
+            let new = blocks_of(&line).unwrap();
+            let old = blocks_of(&line.replace(" recipe 1", "")).unwrap();
+            assert_eq!((new[499], &new[..499]), (1, &old[..499]));
+            assert_eq!(text_of(&new), line);
+        }
+        // Blocks that no order line gives come back as their bytes.
+        for (method, byte) in [("tao", 2), ("tao", 255), ("sao", 1), ("sao", 2)] {
+            let mut bytes = blocks_of(&format!("order {method} data 300\n")).unwrap();
+            bytes[499] = byte;
+            blocks::seal(bytes.first_chunk_mut().unwrap());
+            let text = text_of(&bytes);
+            assert!(text.starts_with("block 01 0"), "{text}");
+            assert_eq!(blocks_of(&text).unwrap(), bytes);
+        }
+    }
+
+    #[test]
+    fn recipe_errors() {
+        let error = |line: &str| blocks_of(&format!("# a comment\norder {line}\n")).unwrap_err();
+        for (line, expected) in [
+            ("tao recipe 2 data 300", "`2` is no recipe; 0 and 1 are"),
+            ("sao recipe 2 data 300", "`2` is no recipe; 0 and 1 are"),
+            ("tao recipe 01 data 300", "`01` is no recipe; 0 and 1 are"),
+            (
+                "tao recipe keep data 300",
+                "`keep` is no recipe; 0 and 1 are",
+            ),
+            ("tao recipe", "`recipe` is followed by 0 or 1"),
+            ("sao recipe", "`recipe` is followed by 0 or 1"),
+            ("sao recipe 1 data 300", "recipe 1 goes with `tao` only"),
+            ("sao recipe 1", "recipe 1 goes with `tao` only"),
+            ("tao recipe 1", "an order has 1 to 99 tracks"),
+            (
+                "recipe 1 tao data 300",
+                "an order starts with `tao` or `sao`",
+            ),
+        ] {
+            assert_eq!(error(line), format!("line 2: {expected}"), "{line}");
+        }
+        for line in [
+            "tao keep recipe 1 data 300",
+            "tao data 300 recipe 1",
+            "tao data 300 recipe",
+            "tao data 300 recipe 1 keep",
+            "tao data recipe 1 300",
+            "tao recipe 0 recipe 1 data 300",
+            "tao recipe 1 recipe 1 data 300",
+        ] {
+            let once = "line 2: `recipe` stands once, right after `tao` or `sao`";
+            assert_eq!(error(line), once, "{line}");
+        }
     }
 
     /// Any bytes at all come back from their text.
