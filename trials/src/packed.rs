@@ -27,7 +27,9 @@
 //! ```
 //!
 //! An order is its method, flags (1 keep, 2 protect, 4 immed, 8 erase) and
-//! count, and 99 rows of kind and length (4); rows behind its tracks are 0.
+//! count, 99 rows of kind and length (4), of which those behind its tracks are 0,
+//! and its recipe (0 or 1): 499 bytes. So the kind of a page, which comes right
+//! behind, is byte 502 of its payload, the operation being byte 0.
 
 use second::hex;
 use second::layouts::{bit, is_request, number, order, reply};
@@ -163,6 +165,7 @@ fn order_bytes(order: &Order) -> Vec<u8> {
         bytes.extend(track.length.to_be_bytes());
     }
     bytes.resize(3 + 5 * MOST_TRACKS, 0);
+    bytes.push(order.recipe.byte());
     bytes
 }
 
@@ -204,19 +207,39 @@ mod tests {
     #[test]
     fn orders() {
         let page = pack("page 60 1 2 3 1 1 300").unwrap();
-        let head = [0x01, 0xF6, 16, 0, 60, 2, 3, 1, 1, 0, 0, 1, 0x2C, 0];
-        assert_eq!(page.len(), 2 + 0x1F6);
+        let head = [0x01, 0xF7, 16, 0, 60, 2, 3, 1, 1, 0, 0, 1, 0x2C, 0];
+        assert_eq!(page.len(), 2 + 0x1F7);
         assert_eq!(page[..14], head);
-        assert!(page[13..503].iter().all(|&byte| byte == 0));
-        assert_eq!(page[503], 1);
+        assert!(page[13..504].iter().all(|&byte| byte == 0));
+        assert_eq!(page[504], 1);
         let erase = pack("order-write 512 1 15 1 0 301").unwrap();
         assert_eq!(
             erase[..13],
-            [0x01, 0xF5, 15, 2, 0, 1, 15, 1, 0, 0, 0, 1, 0x2D]
+            [0x01, 0xF6, 15, 2, 0, 1, 15, 1, 0, 0, 0, 1, 0x2D]
         );
         let many = pack(&format!("sheet 0 1 0 255{}", " 1 1".repeat(99))).unwrap();
         assert_eq!(many[7], 255);
-        assert_eq!(many[many.len() - 5..], [1, 0, 0, 0, 1]);
+        assert_eq!(many[many.len() - 6..], [1, 0, 0, 0, 1, 0]);
+    }
+
+    /// The recipe is the last of an order's 499 bytes, with SAO too.
+    #[test]
+    fn recipes() {
+        for order in ["1 3 1 1 300", "2 0 1 0 300"] {
+            for (name, more) in [("order-write 512", 0), ("sheet 0", 0), ("page 60 1", 1)] {
+                let old = pack(&format!("{name} {order}")).unwrap();
+                assert_eq!(pack(&format!("{name} {order} 0")).unwrap(), old);
+                let mut new = pack(&format!("{name} {order} 1")).unwrap();
+                assert_eq!(new.len(), 2 + 3 + 499 + more);
+                assert_eq!((old[2 + 501], new[2 + 501]), (0, 1));
+                new[2 + 501] = 0;
+                assert_eq!(new, old);
+            }
+        }
+        let many = format!("sheet 0 1 0 100{} 1", " 1 1".repeat(99));
+        let many = pack(&many).unwrap();
+        assert_eq!(many[many.len() - 6..], [1, 0, 0, 0, 1, 1]);
+        assert!(pack("sheet 0 1 0 1 1 300 2").is_err());
     }
 
     #[test]
