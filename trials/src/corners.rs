@@ -1,6 +1,7 @@
 //! A fixed set of named jobs, at least one for each sentence of document 01
-//! that a job can show. Those of document 02, Asks 1, 2, 6 and 12, stand in
-//! `polling_corners`, `erasing_corners`, `charge_corners` and `audio_corners`.
+//! that a job can show. Those of document 02, Asks 1, 2, 6, 7 and 12, stand in
+//! `polling_corners`, `erasing_corners`, `charge_corners`, `recipe_corners` and
+//! `audio_corners`.
 
 use crate::audio_corners::audio;
 use crate::charge_corners::charging;
@@ -8,6 +9,7 @@ use second::blocks::{seal, BLOCK};
 use crate::erasing_corners::erasing;
 use second::hex;
 use crate::polling_corners::polling;
+use crate::recipe_corners::recipes;
 use text::jobs::blocks_of;
 
 /// A named job: the print program's input, its last line by document 01, and
@@ -53,6 +55,7 @@ pub fn corners() -> Vec<Corner> {
     erasing(&mut list);
     charging(&mut list);
     audio(&mut list);
+    recipes(&mut list);
     list.0
 }
 

@@ -1,10 +1,10 @@
 //! Jobs and requests for the proved programs and the second one. `drive`,
 //! `random` and `polling_random` make random jobs, `corners`, `polling_corners`,
-//! `erasing_corners`, `charge_corners` and `audio_corners` the fixed ones;
-//! `requests` makes requests over the byte layouts, which `packed` gives in a
-//! binary form, and `cdtext_random` and `cdtext_corners` those over CD-TEXT.
-//! `conversion` looks at the source and the machine code of the conversion of
-//! times.
+//! `erasing_corners`, `charge_corners`, `audio_corners` and `recipe_corners` the
+//! fixed ones; `requests` makes requests over the byte layouts, which `packed`
+//! gives in a binary form, and `cdtext_random` and `cdtext_corners` those over
+//! CD-TEXT. `conversion` looks at the source and the machine code of the conversion
+//! of times.
 
 #![forbid(unsafe_code)]
 
@@ -25,4 +25,6 @@ pub mod packed;
 pub mod polling_corners;
 pub mod polling_random;
 pub mod random;
+#[rustfmt::skip] // likewise
+pub mod recipe_corners;
 pub mod requests;

@@ -98,15 +98,20 @@ fn at_every_place(list: &mut List) {
 
 /// The pollings that are gone through at every place.
 pub(crate) fn polled_at(list: &mut List, place: &Place) {
-    put(list, place, &[rounds, unready, sense_busy, input_ends]);
+    polled_as(list, "poll", place);
+}
+
+/// The same, under names that begin with another word.
+pub(crate) fn polled_as(list: &mut List, word: &str, place: &Place) {
+    put(list, word, place, &[rounds, unready, sense_busy, input_ends]);
 }
 
 /// The pollings about a reply's bytes.
 pub(crate) fn polled_in_detail(list: &mut List, place: &Place) {
-    put(list, place, &[ready_fails, ready_data, sense_fails, sense_lengths, sense_progress, sense_bytes]);
+    put(list, "poll", place, &[ready_fails, ready_data, sense_fails, sense_lengths, sense_progress, sense_bytes]);
 }
 
-fn put(list: &mut List, place: &Place, groups: &[fn(&mut Cases)]) {
+fn put(list: &mut List, word: &str, place: &Place, groups: &[fn(&mut Cases)]) {
     let mut cases = Cases(Vec::new());
     for group in groups {
         group(&mut cases);
@@ -120,7 +125,7 @@ fn put(list: &mut List, place: &Place, groups: &[fn(&mut Cases)]) {
         };
         let after = if matches!(case.ends, Well(_)) { &place.after } else { "" };
         list.job(
-            &format!("poll-{}-{}", place.name, case.name),
+            &format!("{word}-{}-{}", place.name, case.name),
             &ends,
             &format!("polling after {}: {}", place.name, case.shows),
             &format!("{}{}{after}", place.before, case.replies),
