@@ -4,7 +4,7 @@
 use second::blocks::{Reply, Status};
 use second::commands::{
     has_immed, BLANK, CLOSE_TRACK, CLOSE_TRACK_SESSION, GET_CONFIGURATION, READ_DISC_INFORMATION,
-    READ_TRACK_INFORMATION, REQUEST_SENSE, TEST_UNIT_READY, WRITE,
+    READ_TRACK_INFORMATION, REQUEST_SENSE, SYNCHRONIZE_CACHE, TEST_UNIT_READY, WRITE,
 };
 use second::rng::Rng;
 use second::wellformed::{
@@ -23,6 +23,10 @@ pub struct Drive {
     pub free: u32,
     /// Blocks between a closed track and the next one's start.
     pub gap: u32,
+    /// Closes a track when the cache is forced out (document 02, Ask 7).
+    pub newer: bool,
+    /// A track has blocks and is not closed yet.
+    pub open: bool,
     /// Fills the bytes that nobody reads with noise, and varies lengths.
     pub noisy: bool,
     pub polling: Polling,
@@ -92,7 +96,8 @@ impl Drive {
             READ_TRACK_INFORMATION => track_reply(self.track_fields()),
             BLANK => self.erase(),
             WRITE => self.write(command),
-            CLOSE_TRACK_SESSION => self.close(command),
+            SYNCHRONIZE_CACHE if self.newer => self.close(),
+            CLOSE_TRACK_SESSION if command[2] == CLOSE_TRACK => self.close(),
             TEST_UNIT_READY => self.polling.ready(rng),
             REQUEST_SENSE => self.polling.sense(),
             _ => Reply::good(&[]),
@@ -122,6 +127,7 @@ impl Drive {
     fn write(&mut self, command: &[u8]) -> Reply {
         let address = i32::from_be_bytes([command[2], command[3], command[4], command[5]]);
         let count = u32::from(command[8]);
+        self.open = true;
         let end = i64::from(address) + i64::from(count);
         if let Ok(end) = u32::try_from(end) {
             self.next_writable = end;
@@ -132,8 +138,10 @@ impl Drive {
         Reply::good(&[])
     }
 
-    fn close(&mut self, command: &[u8]) -> Reply {
-        if command[2] == CLOSE_TRACK {
+    /// The next track starts behind the gap. A track is closed once.
+    fn close(&mut self) -> Reply {
+        if self.open {
+            self.open = false;
             self.next_writable = self.next_writable.saturating_add(self.gap);
             self.free = self.free.saturating_sub(self.gap);
         }

@@ -3,7 +3,9 @@
 
 use crate::drive::{noise, Drive, Polling};
 use crate::polling_random;
-use second::blocks::{order_block, read_reply, reply_block, seal, Reply, Status, BLOCK, CHECK};
+use second::blocks::{
+    order_block, read_reply, reply_block, seal, Reply, Status, BLOCK, CHECK, RECIPE,
+};
 use second::commands::{
     BLANK, CLOSE_TRACK_SESSION, GET_CONFIGURATION, MODE_SELECT, READ_DISC_INFORMATION,
     READ_TRACK_INFORMATION, REQUEST_SENSE, SEND_CUE_SHEET, SYNCHRONIZE_CACHE, TEST_UNIT_READY,
@@ -45,6 +47,7 @@ fn order(rng: &mut Rng, notes: &mut Vec<String>) -> Order {
     let method = rng.pick(&[Method::Tao, Method::Sao]);
     let count = track_count(rng);
     let flags = flags(rng, method);
+    let recipe = recipe(rng, method);
     let kinds = kinds(rng, method, count);
     let mut lengths: Vec<u32> = (0..count).map(|_| usual_length(rng)).collect();
     // S alone has a limit in SAO, and with the flag for erasing.
@@ -59,7 +62,7 @@ fn order(rng: &mut Rng, notes: &mut Vec<String>) -> Order {
         method,
         flags,
         tracks: tracks.collect(),
-        recipe: Recipe::default(),
+        recipe,
     }
 }
 
@@ -81,6 +84,14 @@ fn flags(rng: &mut Rng, method: Method) -> Flags {
         protect: rng.chance(50),
         immed: rng.chance(50),
         erase: rng.chance(50),
+    }
+}
+
+/// Half of TAO goes by either recipe; SAO with recipe 1 has no order block.
+fn recipe(rng: &mut Rng, method: Method) -> Recipe {
+    match method {
+        Method::Tao => rng.pick(&[Recipe::Old, Recipe::New]),
+        Method::Sao => Recipe::Old,
     }
 }
 
@@ -333,6 +344,20 @@ impl<'a> Maker<'a> {
                 let place = self.rng.below(CHECK as u64) as usize;
                 let value = self.rng.byte();
                 self.damage(&mut block, place, &[value], "any byte of the order")
+            }
+            // With 1, or 0, a TAO order goes by the other recipe.
+            11..=12 => {
+                let value = self.rng.byte();
+                self.damage(
+                    &mut block,
+                    RECIPE,
+                    &[1, 1, 1, 0, 2, 3, 128, 255, value],
+                    "the order's recipe",
+                )
+            }
+            13 => {
+                let place = self.rng.pick(&[RECIPE - 1, RECIPE + 1]);
+                self.damage(&mut block, place, &[1, 255], "a byte beside the recipe")
             }
             _ => return block.to_vec(),
         };
@@ -747,10 +772,13 @@ fn drive(rng: &mut Rng, order: &Order, notes: &mut Vec<String>) -> Drive {
     let free = free_blocks(rng, room);
     let next_writable = first_address(rng, order.method, room);
     let gap = rng.pick(&[0, 0, 0, 2, 150, 151, 152, 152, 152, 152, 152, 153]);
+    let newer = rng.chance(if order.recipe == Recipe::New { 90 } else { 10 });
     let mark = if erasable { " erasable" } else { "" };
+    let age = if newer { ", a newer drive" } else { "" };
     notes.push(format!(
         "profile {profile:04X}h, disc {disc}{mark}, address {next_writable}, free {free}, \
-         {blocks} blocks, {gap} between tracks"
+         {blocks} blocks, {gap} between tracks, recipe {}{age}",
+        order.recipe.byte()
     ));
     Drive {
         profile,
@@ -760,6 +788,8 @@ fn drive(rng: &mut Rng, order: &Order, notes: &mut Vec<String>) -> Drive {
         next_writable,
         free,
         gap,
+        newer,
+        open: false,
         noisy: rng.chance(40),
         polling: polling(rng, order),
     }
@@ -859,12 +889,16 @@ fn odd_place(rng: &mut Rng, order: &Order) -> Odd {
         84..=91 => SYNCHRONIZE_CACHE,
         _ => CLOSE_TRACK_SESSION,
     };
+    let closings = match order.recipe {
+        Recipe::Old => tracks + 1,
+        Recipe::New => 1,
+    };
     let most = match (code, order.method) {
         (GET_CONFIGURATION | READ_DISC_INFORMATION | SEND_CUE_SHEET, _) => 1,
         (WRITE, Method::Sao) => 12 + 20 * tracks,
         (WRITE, Method::Tao) => 20 * tracks,
         (_, Method::Sao) => 1,
-        (CLOSE_TRACK_SESSION, Method::Tao) => tracks + 1,
+        (CLOSE_TRACK_SESSION, Method::Tao) => closings,
         (_, Method::Tao) => tracks,
     };
     Odd {
@@ -898,9 +932,11 @@ fn odd_erasing(rng: &mut Rng) -> Odd {
 
 /// At one of the polls, mostly of those that surely come.
 fn odd_poll(rng: &mut Rng, order: &Order) -> Odd {
-    let closings = match order.method {
-        Method::Tao => 2 * order.tracks.len() as u64 + 1,
-        Method::Sao => 1,
+    let tracks = order.tracks.len() as u64;
+    let closings = match (order.method, order.recipe) {
+        (Method::Tao, Recipe::Old) => 2 * tracks + 1,
+        (Method::Tao, Recipe::New) => tracks + 1,
+        (Method::Sao, _) => 1,
     };
     let pollings = closings + u64::from(order.flags.erase);
     let most = rng.pick(&[pollings, pollings, 2 * pollings]);
@@ -1008,7 +1044,7 @@ mod tests {
             .flat_map(|_| spares(&job(&mut rng).bytes))
             .collect();
         for sort in [0, 1] {
-            for (over, least) in [(0, 60), (-1, 5), (1, 5)] {
+            for (over, least) in [(0, 35), (-1, 5), (1, 5)] {
                 let found = all.iter().filter(|spare| spare[sort] == over).count();
                 assert!(found >= least, "{sort} {over}: {found}");
             }
@@ -1039,6 +1075,45 @@ mod tests {
             found.len() == 6 && found.values().all(|&n| n > 1),
             "{found:?}"
         );
+    }
+
+    /// Half of the TAO jobs go by recipe 1, many of them to their end, polled or
+    /// not and of more than one track; and byte 499 is odd in some blocks of either
+    /// method, the check being right.
+    #[test]
+    fn recipes_occur() {
+        let mut rng = Rng::new(10);
+        let mut taken = [0; 2];
+        let mut done: BTreeMap<(u8, bool, bool), u32> = BTreeMap::new();
+        let mut refused: BTreeMap<(u8, bool), u32> = BTreeMap::new();
+        for _ in 0..2_500 {
+            let bytes = job(&mut rng).bytes;
+            let Some(block) = bytes.first_chunk::<BLOCK>() else {
+                continue;
+            };
+            match read_order(block) {
+                Ok(order) if order.method == Method::Tao => {
+                    let recipe = order.recipe.byte();
+                    taken[usize::from(recipe)] += 1;
+                    if outcome(&bytes).0 == Some(0) {
+                        let sort = (recipe, order.flags.immed, order.tracks.len() > 1);
+                        *done.entry(sort).or_default() += 1;
+                    }
+                }
+                Err(refusal) if refusal.number() == 3 && block[RECIPE] > 0 => {
+                    let sort = (block[1], block[RECIPE] == 1);
+                    *refused.entry(sort).or_default() += 1;
+                }
+                _ => {}
+            }
+        }
+        assert!(taken.iter().all(|&jobs| jobs > 500), "{taken:?}");
+        let many = done.len() == 8 && done.values().all(|&jobs| jobs > 15);
+        assert!(many, "{done:?}");
+        for sort in [(1, false), (2, false), (2, true)] {
+            let jobs = refused.get(&sort).copied().unwrap_or(0);
+            assert!(jobs > 2, "{sort:?}: {refused:?}");
+        }
     }
 
     #[test]

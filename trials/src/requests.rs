@@ -1,7 +1,7 @@
 //! Requests for the layouts tool: random ones, a fixed list of corners, and
 //! every address and every time.
 
-use second::blocks::{order_block, reply_block, seal, Reply, Status, BLOCK, MOST_DATA};
+use second::blocks::{order_block, reply_block, seal, Reply, Status, BLOCK, MOST_DATA, RECIPE};
 use second::hex;
 use second::rng::Rng;
 use second::units::{Flags, Kind, Method, Order, Recipe, Track, LAST_ADDRESS, MOST_TRACKS};
@@ -11,6 +11,7 @@ const LIMIT: u32 = LAST_ADDRESS as u32;
 const OLD_LIMIT: u32 = 449_849;
 const KINDS: [Kind; 2] = [Kind::Audio, Kind::Data];
 const METHODS: [Method; 2] = [Method::Tao, Method::Sao];
+const RECIPES: [Recipe; 2] = [Recipe::Old, Recipe::New];
 /// Flag bytes with Immed or erase, and flag bytes that no order has.
 const FLAG_BYTES: [u8; 22] = [
     4, 5, 6, 7, 8, 9, 10, 11, 12, 13, 14, 15, 0x10, 0x11, 0x14, 0x18, 0x1C, 0x20, 0x40, 0x80, 0x88,
@@ -99,11 +100,21 @@ fn any_order(rng: &mut Rng) -> Order {
             .iter_mut()
             .for_each(|track| track.kind = rng.pick(&KINDS));
     }
+    // Recipe 1 with SAO is 3.
+    let new_percent = if method == Method::Tao { 50 } else { 15 };
     Order {
         method,
         flags,
         tracks,
-        recipe: Recipe::default(),
+        recipe: any_recipe(rng, new_percent),
+    }
+}
+
+fn any_recipe(rng: &mut Rng, new_percent: u64) -> Recipe {
+    if rng.chance(new_percent) {
+        Recipe::New
+    } else {
+        Recipe::Old
     }
 }
 
@@ -125,6 +136,7 @@ fn any_length(rng: &mut Rng) -> u32 {
 fn sheet_order(rng: &mut Rng) -> Order {
     let mut order = any_order(rng);
     order.method = Method::Sao;
+    order.recipe = any_recipe(rng, 4);
     order.flags.keep = rng.chance(3);
     let kind = rng.pick(&KINDS);
     if rng.chance(95) {
@@ -155,14 +167,46 @@ fn reach_limit(rng: &mut Rng, order: &mut Order) {
     }
 }
 
-/// METHOD FLAGS N K1 L1 .., with at most 99 tracks listed.
+/// METHOD FLAGS N K1 L1 .., with at most 99 tracks listed, and recipe 1 behind
+/// them; recipe 0 is left out.
 fn order_words(order: &Order) -> String {
+    match order.recipe {
+        Recipe::Old => words_to_tracks(order),
+        Recipe::New => full_words(order),
+    }
+}
+
+/// The same, with recipe 0 too.
+fn full_words(order: &Order) -> String {
+    format!("{} {}", words_to_tracks(order), order.recipe.byte())
+}
+
+fn words_to_tracks(order: &Order) -> String {
     let (method, flags) = (order.method.byte(), order.flags.byte());
     let tracks = order.tracks.iter().take(MOST_TRACKS);
     let pairs: String = tracks
         .map(|t| format!(" {} {}", t.kind.byte(), t.length))
         .collect();
     format!("{method} {flags} {}{pairs}", order.tracks.len())
+}
+
+/// Recipe 0 is left out or named.
+fn any_words(rng: &mut Rng, order: &Order) -> String {
+    if rng.chance(30) {
+        full_words(order)
+    } else {
+        order_words(order)
+    }
+}
+
+/// The sealed block of an order, with recipe 1 beside SAO too.
+fn loose_block(order: &Order) -> [u8; BLOCK] {
+    let mut old = order.clone();
+    old.recipe = Recipe::Old;
+    let mut block = order_block(&old).unwrap_or([0; BLOCK]);
+    block[RECIPE] = order.recipe.byte();
+    seal(&mut block);
+    block
 }
 
 /// A buffer's length around the one that is needed.
@@ -183,13 +227,15 @@ fn lent(rng: &mut Rng, needed: usize) -> usize {
 
 fn random_order_write(rng: &mut Rng) -> String {
     let order = any_order(rng);
-    format!("order-write {} {}", lent(rng, BLOCK), order_words(&order))
+    let words = any_words(rng, &order);
+    format!("order-write {} {words}", lent(rng, BLOCK))
 }
 
 fn random_page(rng: &mut Rng) -> String {
     let order = any_order(rng);
     let kind = rng.pick(&KINDS).byte();
-    format!("page {} {kind} {}", lent(rng, 60), order_words(&order))
+    let words = any_words(rng, &order);
+    format!("page {} {kind} {words}", lent(rng, 60))
 }
 
 fn random_sheet(rng: &mut Rng) -> String {
@@ -199,16 +245,22 @@ fn random_sheet(rng: &mut Rng) -> String {
         any_order(rng)
     };
     let needed = 8 * (order.tracks.len() + 3);
-    format!("sheet {} {}", lent(rng, needed), order_words(&order))
+    let words = any_words(rng, &order);
+    format!("sheet {} {words}", lent(rng, needed))
 }
 
 // ---- blocks read ----
 
 fn random_order_read(rng: &mut Rng) -> String {
     let order = any_order(rng);
-    let mut block = order_block(&order).unwrap_or([0; BLOCK]);
+    let mut block = loose_block(&order);
     if rng.chance(10) {
         block[2] = rng.pick(&FLAG_BYTES);
+        seal(&mut block);
+    }
+    if rng.chance(8) {
+        let any = rng.byte();
+        block[RECIPE] = rng.pick(&[0, 1, 1, 2, 3, 128, 255, any]);
         seal(&mut block);
     }
     let used = (4 + 5 * order.tracks.len()).min(BLOCK);
@@ -255,7 +307,9 @@ fn changed_block(rng: &mut Rng, mut block: [u8; BLOCK], used: usize) -> Vec<u8> 
     let anywhere = rng.below(BLOCK as u64) as usize;
     let in_use = rng.below(used as u64) as usize;
     let head = rng.below(4) as usize;
-    let place = rng.pick(&[anywhere, in_use, in_use, head, head, 509, used.min(511)]);
+    let beside = rng.pick(&[RECIPE - 1, RECIPE, RECIPE + 1]);
+    let used = used.min(511);
+    let place = rng.pick(&[anywhere, in_use, in_use, head, head, 509, used, beside]);
     let value = rng.byte();
     let value = rng.pick(&[
         value,
@@ -445,6 +499,7 @@ pub fn corners() -> Vec<String> {
     reply_corners(&mut list);
     page_corners(&mut list);
     audio_corners(&mut list);
+    recipe_corners(&mut list);
     sheet_corners(&mut list);
     sheet_read_corners(&mut list);
     command_corners(&mut list);
@@ -697,6 +752,96 @@ fn tao_with_audio() -> Vec<Order> {
     orders
 }
 
+/// The recipe (document 02, Ask 7) in blocks read and written, in pages and in
+/// sheets. Recipe 1 with SAO is 3, ahead of 8 to 11.
+fn recipe_corners(list: &mut Vec<String>) {
+    for method in METHODS {
+        for (flags, count, length) in [(0, 1, 300), (15, 2, 301), (5, 99, 300)] {
+            recipe_byte_corners(list, &simple_order(method, flags, count, length));
+        }
+        for recipe in RECIPES {
+            recipe_maker_corners(list, method, recipe);
+        }
+    }
+    let mut order = simple_order(Method::Tao, 9, 2, 300);
+    order.tracks[1].kind = Kind::Audio;
+    order.recipe = Recipe::New;
+    let block = order_block(&order).unwrap_or([0; BLOCK]);
+    block_read_corners(list, "order-read", block);
+    // What an SAO order has besides, judged behind 3.
+    for words in [
+        "2 1 1 1 300",
+        "2 0 2 0 300 1 300",
+        "2 0 1 1 299",
+        "2 0 1 1 404850",
+        "2 1 2 0 299 1 404850",
+        "2 0 1 1 404849",
+    ] {
+        for recipe in 0..2 {
+            for lent in [0, 31, 32, 40] {
+                list.push(format!("sheet {lent} {words} {recipe}"));
+            }
+        }
+    }
+}
+
+/// Every byte 499 in the block of an order, some without a right check; and every
+/// byte around it.
+fn recipe_byte_corners(list: &mut Vec<String>, order: &Order) {
+    let mut push = |block: &[u8; BLOCK]| list.push(format!("order-read {}", hex::plain(block)));
+    for value in 0..=255 {
+        let mut block = loose_block(order);
+        block[RECIPE] = value;
+        if [1, 2, 255].contains(&value) {
+            push(&block);
+        }
+        seal(&mut block);
+        push(&block);
+    }
+    for recipe in [0, 1, 2] {
+        for place in (490..RECIPE).chain(RECIPE + 1..510) {
+            for value in [0, 1, 2, 255] {
+                let mut block = loose_block(order);
+                block[RECIPE] = recipe;
+                block[place] = value;
+                seal(&mut block);
+                push(&block);
+            }
+        }
+    }
+}
+
+/// Blocks, pages and sheets of a method and a recipe, which is named; those of
+/// recipe 1 with every mix of flags.
+fn recipe_maker_corners(list: &mut Vec<String>, method: Method, recipe: Recipe) {
+    let every: Vec<u8> = (0..16).collect();
+    let flag_bytes = match recipe {
+        Recipe::Old => &[0, 3, 12],
+        Recipe::New => every.as_slice(),
+    };
+    for &flags in flag_bytes {
+        for count in [0, 1, 99, 100] {
+            let mut order = simple_order(method, flags, count, 300);
+            order.recipe = recipe;
+            for kind in KINDS {
+                order.tracks.iter_mut().for_each(|track| track.kind = kind);
+                let words = full_words(&order);
+                for lent in [0, 511, 512, 513] {
+                    list.push(format!("order-write {lent} {words}"));
+                }
+                for lent in [0, 59, 60, 61] {
+                    list.push(format!("page {lent} 0 {words}"));
+                    list.push(format!("page {lent} 1 {words}"));
+                }
+                let needed = 8 * (count + 3);
+                for lent in [0, needed - 1, needed, needed + 1] {
+                    list.push(format!("sheet {lent} {words}"));
+                }
+            }
+        }
+    }
+}
+
 fn sheet_corners(list: &mut Vec<String>) {
     let lines = [
         "sheet 40 2 0 2 0 300 0 450",
@@ -944,6 +1089,13 @@ fn bad_corners(list: &mut Vec<String>) {
         "sheet",
         "order-write 512 1 16 1 0 300",
         "order-write 512 1 24 1 0 300",
+        "order-write 512 1 0 1 0 300 2",
+        "order-write 512 1 0 1 0 300 255",
+        "order-write 512 1 0 1 0 300 256",
+        "order-write 512 1 0 1 0 300 1 1",
+        "order-write 512 1 0 1 1",
+        "page 60 0 1 0 1 0 300 2",
+        "sheet 32 2 0 1 0 300 2",
         "page 60 0 1 16 1 0 300",
         "sheet 32 2 16 1 0 300",
         "blank 12",
@@ -1082,6 +1234,132 @@ mod tests {
         }
     }
 
+    /// What the recipes' corner requests are answered, by document 02, Ask 7. The
+    /// bytes made are those of recipe 0, byte 499 and the check apart.
+    #[test]
+    fn recipes_are_answered() {
+        let mut list = Vec::new();
+        recipe_corners(&mut list);
+        let mut seen = BTreeSet::new();
+        for request in &list {
+            let words: Vec<&str> = request.split(' ').collect();
+            let name = words[0].to_string();
+            let answered = answer(request);
+            if name == "order-read" {
+                let expected = block_answer(&hex::bytes_or_dash(&words[1..]).unwrap());
+                assert_eq!(answered, expected, "{request}");
+                let ending = if answered.starts_with("ok") {
+                    format!("ok {}", &answered[answered.len() - 1..])
+                } else {
+                    answered
+                };
+                seen.insert((name, ending));
+                continue;
+            }
+            let rest = if name == "page" { 3 } else { 2 };
+            let expected = maker_answer(&name, words[1].parse().unwrap(), &words[rest..]);
+            assert!(
+                answered.starts_with(&format!("{expected} ")),
+                "{request}: {answered}"
+            );
+            if expected == "ok" {
+                let plain = answer(&words[..words.len() - 1].join(" "));
+                let [mut ours, plain] = [&answered, &plain]
+                    .map(|made| made.split(' ').map(str::to_string).collect::<Vec<String>>());
+                if name == "order-write" {
+                    let recipe = words.last().unwrap();
+                    assert_eq!(ours[1 + 499], format!("0{recipe}"), "{request}");
+                    assert_eq!(plain[1 + 499], "00");
+                    ours[1 + 499].clone_from(&plain[1 + 499]);
+                    ours[1 + 510..1 + 512].clone_from_slice(&plain[1 + 510..1 + 512]);
+                }
+                assert_eq!(ours, plain, "{request}");
+            }
+            seen.insert((name, expected));
+        }
+        for (name, endings) in [
+            (
+                "order-read",
+                &["ok 0", "ok 1", "refused 1", "refused 2", "refused 3"][..],
+            ),
+            ("order-write", &["ok", "refused 3", "refused 11"]),
+            ("page", &["ok", "refused 3", "refused 8", "refused 11"]),
+            (
+                "sheet",
+                &[
+                    "ok",
+                    "refused 3",
+                    "refused 8",
+                    "refused 9",
+                    "refused 10",
+                    "refused 11",
+                ],
+            ),
+        ] {
+            for ending in endings {
+                let sort = (name.to_string(), ending.to_string());
+                assert!(seen.contains(&sort), "{sort:?}");
+            }
+        }
+    }
+
+    /// The whole answer to reading a block of 512 bytes with rows of kind and
+    /// length, or any other.
+    fn block_answer(bytes: &[u8]) -> String {
+        if bytes.len() != 512 {
+            return "refused 1".to_string();
+        }
+        let sum: u32 = bytes[..510].iter().map(|&byte| u32::from(byte)).sum();
+        if sum % 65_536 != 256 * u32::from(bytes[510]) + u32::from(bytes[511]) {
+            return "refused 2".to_string();
+        }
+        let (method, flags, count, recipe) = (bytes[1], bytes[2], bytes[3], bytes[499]);
+        let end = 4 + 5 * usize::from(count);
+        let head = bytes[0] == 1 && [1, 2].contains(&method) && flags < 16;
+        let fits = (1..=99).contains(&count) && (recipe == 0 || (recipe == 1 && method == 1));
+        if !head || !fits {
+            return "refused 3".to_string();
+        }
+        let mut rows = bytes[4..end].chunks(5);
+        let padding = [&bytes[end..499], &bytes[500..510]].concat();
+        if rows.any(|row| row[0] > 1) || padding.iter().any(|&byte| byte != 0) {
+            return "refused 3".to_string();
+        }
+        let rows = bytes[4..end].chunks(5).map(|row| {
+            let length = row[1..].iter().fold(0u64, |n, &b| 256 * n + u64::from(b));
+            format!(" {} {length}", row[0])
+        });
+        let rows: String = rows.collect();
+        format!("ok {method} {flags} {count}{rows} {recipe}")
+    }
+
+    /// How the answer of a maker begins, for an order of these words.
+    fn maker_answer(name: &str, lent: u64, order: &[&str]) -> String {
+        let numbers: Vec<u64> = order.iter().map(|word| word.parse().unwrap()).collect();
+        let (sao, keep, count) = (numbers[0] == 2, numbers[1] % 2 == 1, numbers[2]);
+        let new = numbers.last() == Some(&1);
+        let listed = &numbers[3..numbers.len() - 1];
+        let kinds: BTreeSet<u64> = listed.iter().step_by(2).copied().collect();
+        let lengths: Vec<u64> = listed.iter().skip(1).step_by(2).copied().collect();
+        let field = count == 0 || count > 99 || (sao && new);
+        let needed = match name {
+            "order-write" => 512,
+            "page" => 60,
+            _ => 8 * (count + 3),
+        };
+        let number = match name {
+            _ if field => 3,
+            "sheet" if !sao => 3,
+            "page" if sao && keep => 8,
+            "sheet" if keep || kinds.len() > 1 => 8,
+            "sheet" if lengths.iter().any(|&length| length < 300) => 9,
+            "sheet" if lengths.iter().sum::<u64>() > 404_849 => 10,
+            _ if lent < needed => 11,
+            _ => return "ok".to_string(),
+        };
+        format!("refused {number}")
+    }
+
     #[test]
     fn only_the_bad_corners_are_bad() {
         let list = corners();
@@ -1089,6 +1367,6 @@ mod tests {
             .iter()
             .filter(|request| answer(request) == "bad request")
             .count();
-        assert_eq!(bad, 21);
+        assert_eq!(bad, 28);
     }
 }
