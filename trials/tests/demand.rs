@@ -1,11 +1,12 @@
 //! Demand 3 of the order for work, watched from outside over random jobs: the
 //! recorded blocks are a beginning of the ordered ones, no address takes two
-//! blocks, done means recorded and closed, every polling ended, and the count
-//! without polls is that of document 01, with 2 more for an erasing. No disc is
-//! erased for an order known to be bad, and audio in TAO gets no command but those
-//! of the opening. Replies to an ended job are 13 and change nothing.
+//! blocks, done means recorded and closed by the order's recipe, every polling
+//! ended, and the count without polls is that of document 01 or of Ask 7, with 2
+//! more for an erasing. Under recipe 1 no 5Bh function 1 is given. No disc is erased
+//! for an order known to be bad, and audio in TAO gets no command but those of the
+//! opening. Replies to an ended job are 13 and change nothing.
 
-use second::blocks::{read_order, read_reply, Reply, Status, BLOCK};
+use second::blocks::{read_order, read_reply, Reply, Status, BLOCK, RECIPE};
 use second::commands::{
     BLANK, CLOSE_TRACK_SESSION, GET_CONFIGURATION, READ_DISC_INFORMATION, READ_TRACK_INFORMATION,
     REQUEST_SENSE, SYNCHRONIZE_CACHE, TEST_UNIT_READY, WRITE,
@@ -13,7 +14,7 @@ use second::commands::{
 use second::job::{Answer, Command, Job};
 use second::refusal::Refusal;
 use second::rng::Rng;
-use second::units::{Kind, Method, Order};
+use second::units::{Kind, Method, Order, Recipe};
 use trials::{corners, random};
 
 /// What the good replies have brought about so far.
@@ -132,24 +133,38 @@ impl Watch {
 
     fn recorded_and_closed(&self, order: &Order) -> bool {
         let tracks = order.tracks.len();
-        let closed = match order.method {
-            Method::Tao => {
-                (self.synchronized, self.tracks_closed, self.sessions_closed) == (tracks, tracks, 1)
-            }
-            Method::Sao => self.synchronized == 1,
+        let closings = match (order.method, order.recipe) {
+            (Method::Tao, Recipe::Old) => (tracks, tracks, 1),
+            (Method::Tao, Recipe::New) => (tracks, 0, 1),
+            (Method::Sao, _) => (1, 0, 0),
         };
+        let closed = (self.synchronized, self.tracks_closed, self.sessions_closed) == closings;
         closed && !self.polling && self.recorded == order.blocks_from(0).0
     }
 }
 
 /// Document 02, Ask 12: with an audio track in TAO 46h, 51h and 52h alone are
 /// given, with the flag for erasing 46h and 51h.
-fn may_give(order: &Order, code: u8) -> bool {
+fn may_give_to_audio(order: &Order, code: u8) -> bool {
     let audio = order.tracks.iter().any(|track| track.kind == Kind::Audio);
     match code {
         _ if order.method == Method::Sao || !audio => true,
         READ_TRACK_INFORMATION => !order.flags.erase,
         _ => [GET_CONFIGURATION, READ_DISC_INFORMATION].contains(&code),
+    }
+}
+
+/// Document 02, Ask 7: 5Bh function 1 is given under recipe 0 alone, and no 5Bh at
+/// all in SAO.
+fn may_close(order: &Order, command: &Command) -> bool {
+    let [code, _, function, ..] = *command.bytes else {
+        return false;
+    };
+    match (order.method, order.recipe) {
+        _ if code != CLOSE_TRACK_SESSION => true,
+        (Method::Tao, Recipe::Old) => true,
+        (Method::Tao, Recipe::New) => function == 2,
+        (Method::Sao, _) => false,
     }
 }
 
@@ -179,9 +194,11 @@ fn charged(order: &Order) -> u64 {
 fn all_good_count(order: &Order) -> u64 {
     let lengths = order.tracks.iter().map(|track| u64::from(track.length));
     let writes: u64 = lengths.map(|length| length.div_ceil(16)).sum();
-    match order.method {
-        Method::Tao => 4 * order.tracks.len() as u64 + 3 + writes,
-        Method::Sao => 16 + writes,
+    let tracks = order.tracks.len() as u64;
+    match (order.method, order.recipe) {
+        (Method::Tao, Recipe::Old) => 4 * tracks + 3 + writes,
+        (Method::Tao, Recipe::New) => 3 * tracks + 3 + writes,
+        (Method::Sao, _) => 16 + writes,
     }
 }
 
@@ -206,7 +223,8 @@ fn follow(bytes: &[u8]) -> bool {
         watch.reply(&order, &command, &reply);
         answer = job.give(&reply);
         if let Answer::Command(next) = answer {
-            assert!(may_give(&order, next.bytes[0]), "audio in TAO");
+            assert!(may_give_to_audio(&order, next.bytes[0]), "audio in TAO");
+            assert!(may_close(&order, &next), "a 5Bh out of place");
             given += 1;
             polls += u64::from(is_poll(&next));
             let again = reply.status == Status::Failed && command.bytes[0] != TEST_UNIT_READY;
@@ -228,10 +246,14 @@ fn follow(bytes: &[u8]) -> bool {
 #[test]
 fn random_jobs_keep_demand_3() {
     let mut rng = Rng::new(2026);
-    let done = (0..1_500)
-        .filter(|_| follow(&random::job(&mut rng).bytes))
-        .count();
-    assert!(done > 300, "{done}");
+    let mut done = [0; 2];
+    for _ in 0..1_500 {
+        let bytes = random::job(&mut rng).bytes;
+        if follow(&bytes) {
+            done[usize::from(bytes[RECIPE])] += 1;
+        }
+    }
+    assert!(done[0] > 250 && done[1] > 50, "{done:?}");
 }
 
 /// Of the corner jobs, too; those with bad blocks end there.
