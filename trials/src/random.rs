@@ -346,16 +346,16 @@ impl<'a> Maker<'a> {
                 self.damage(&mut block, place, &[value], "any byte of the order")
             }
             // With 1, or 0, a TAO order goes by the other recipe.
-            11..=12 => {
+            11..=14 => {
                 let value = self.rng.byte();
                 self.damage(
                     &mut block,
                     RECIPE,
-                    &[1, 1, 1, 0, 2, 3, 128, 255, value],
+                    &[1, 1, 1, 1, 0, 2, 2, 128, 255, value],
                     "the order's recipe",
                 )
             }
-            13 => {
+            15 => {
                 let place = self.rng.pick(&[RECIPE - 1, RECIPE + 1]);
                 self.damage(&mut block, place, &[1, 255], "a byte beside the recipe")
             }
@@ -659,7 +659,7 @@ impl<'a> Maker<'a> {
 
     fn odd_track(&mut self, previous_end: Option<u64>) -> (Reply, String) {
         let mut fields = self.drive.track_fields();
-        let note = match self.rng.below(8) {
+        let note = match self.rng.below(9) {
             0 => {
                 fields.damaged = true;
                 "damaged".to_string()
@@ -674,7 +674,7 @@ impl<'a> Maker<'a> {
                 "damaged, no address".to_string()
             }
             3..=4 => self.odd_free(&mut fields),
-            5 => self.odd_address(&mut fields, previous_end),
+            5..=6 => self.odd_address(&mut fields, previous_end),
             _ => self.at_the_limit(&mut fields),
         };
         if fields.address_valid && !fields.damaged {
@@ -872,6 +872,14 @@ fn odd_place(rng: &mut Rng, order: &Order) -> Odd {
     let tracks = order.tracks.len() as u64;
     if audio_in_tao(order) && rng.chance(50) {
         return odd_opening(rng);
+    }
+    if order.recipe == Recipe::New && tracks > 1 && rng.chance(35) {
+        // The 52h that comes right behind a 35h.
+        let nth = rng.between(2, tracks) as usize;
+        return Odd {
+            code: READ_TRACK_INFORMATION,
+            nth,
+        };
     }
     if order.flags.immed && rng.chance(60) {
         return odd_poll(rng, order);
@@ -1112,7 +1120,7 @@ mod tests {
         assert!(many, "{done:?}");
         for sort in [(1, false), (2, false), (2, true)] {
             let jobs = refused.get(&sort).copied().unwrap_or(0);
-            assert!(jobs > 2, "{sort:?}: {refused:?}");
+            assert!(jobs > 5, "{sort:?}: {refused:?}");
         }
     }
 
