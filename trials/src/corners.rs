@@ -177,7 +177,7 @@ fn order_blocks(list: &mut List) {
     list.changed("order-padding-first", "stop 3 0", "order: the byte after the rows is not 0: 3", job, (0, 14, 1));
     list.changed("order-padding-last", "stop 3 0", "order: byte 509 is not 0: 3", job, (0, 509, 1));
     let full = format!("order sao{}\n{OPEN}", " data 300".repeat(99));
-    list.changed("order-99-padding", "stop 3 0", "order: with 99 rows bytes 499 to 509 are padding: 3", &full, (0, 499, 1));
+    list.changed("order-99-padding", "stop 3 0", "order: with 99 rows byte 499 is no part of them, and SAO has no recipe 1: 3", &full, (0, 499, 1));
     list.changed("order-99-kind", "stop 3 0", "order: the 99th row's kind counts: 3", &full, (0, 494, 2));
     list.job("order-99-rows", "waiting 1", "order: 99 rows pass; the check is taken modulo 65,536", &format!("order tao{}\n", " data 4294967295".repeat(99)));
     list.job("order-length-any", "stop 10 3", "order: any length is a valid field; 10 later", &format!("order tao data 4294967295\n{OPEN}"));
