@@ -11,7 +11,7 @@ use Rattle.mmc.specs.Sheet.{sheetSize, sheetFault, cueEntry, leadInEntry, pause
 use Rattle.recorder.specs.Replies.{hasSense, senseOf, longWrite, isBusy, readFailed, notReady, isUnready, readUnready, progressOf, readProgress, wholeProfile, readProfile, wholeDisc, discOf, readDisc, wholeInformation, informationOf, readInformation}
 use Rattle.recorder.specs.Rules.{otherProfile, unsuitable, unusable, fits, tooLong, used, notErasable}
 use Rattle.recorder.specs.Job.{inOrder, inTime, inPiece, isWrite, standsIn}
-use Rattle.recorder.specs.Bench.{PollSheets, EraseSheets, ChargeSheets, AudioSheets, StarredSheets, OtherSheets}
+use Rattle.recorder.specs.Bench.{PollSheets, EraseSheets, ChargeSheets, AudioSheets, RecipeSheets, StarredSheets, OtherSheets}
 
 pub poll-sheets : PollSheets
 unfolding sheetSize sendCueSheet closeTrackSession framesTo bytes32 be32 allKind allLong blocksOf inRange addressAt writeRange writeBytes writeCommand hasSense senseOf longWrite isBusy readFailed notReady isUnready readUnready progressOf readProgress wholeProfile readProfile wholeDisc discOf readDisc wholeInformation informationOf readInformation otherProfile unsuitable unusable mixedOrKept fits inOrder inTime inPiece isWrite standsIn
@@ -62,6 +62,10 @@ charge-sheets = record { first-free = refl; later-free = refl; first-end = refl;
 pub audio-sheets : AudioSheets
 unfolding sheetSize sendCueSheet closeTrackSession framesTo bytes32 be32 allKind allLong blocksOf inRange addressAt writeRange writeBytes writeCommand hasSense senseOf longWrite isBusy readFailed notReady isUnready readUnready progressOf readProgress wholeProfile readProfile wholeDisc discOf readDisc wholeInformation informationOf readInformation otherProfile unsuitable unusable mixedOrKept fits inOrder inTime inPiece isWrite standsIn tooLong used notErasable
 audio-sheets = record { each-place = refl; passing = refl; in-turn = refl; before-erasing = refl; commands = refl }
+
+pub recipe-sheets : RecipeSheets
+unfolding sheetSize sendCueSheet closeTrackSession framesTo bytes32 be32 allKind allLong blocksOf inRange addressAt writeRange writeBytes writeCommand hasSense senseOf longWrite isBusy readFailed notReady isUnready readUnready progressOf readProgress wholeProfile readProfile wholeDisc discOf readDisc wholeInformation informationOf readInformation otherProfile unsuitable unusable mixedOrKept fits inOrder inTime inPiece isWrite standsIn tooLong used notErasable
+recipe-sheets = record { command-counts = refl; commands = refl; polled = refl; closed = refl; forged = refl }
 
 pub starred-sheets : StarredSheets
 unfolding sheetSize sendCueSheet closeTrackSession framesTo bytes32 be32 allKind allLong blocksOf inRange addressAt writeRange writeBytes writeCommand hasSense senseOf longWrite isBusy readFailed wholeProfile readProfile wholeDisc discOf readDisc wholeInformation informationOf readInformation otherProfile unsuitable unusable mixedOrKept fits inOrder inTime inPiece isWrite standsIn sumOf allZero checkSum sealed blockFault blockRead allNone validOrder methodOf keepOf protectOf immedOf eraseOf row rows orderBody orderBytes orderBlock trackOf tracksOf kindsOk fieldsOf headOk orderOk readOrder hasTime timeFrames timeOf page sheetFault overlong cueEntry leadInEntry pauseEntry startEntry leadOutEntry trackEntries sheetOf cueSheet

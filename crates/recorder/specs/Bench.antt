@@ -16,14 +16,14 @@ use Rattle.mmc.specs.declared.order.Kind.{Kind}
 use Rattle.mmc.specs.declared.order.Kind.the-variants.{Audio, Data}
 use Rattle.mmc.specs.declared.order.Method.{Method}
 use Rattle.mmc.specs.declared.order.Method.the-variants.{Tao, Sao}
-use Rattle.mmc.specs.declared.order.Recipe.{Recipe}
 use Rattle.mmc.specs.declared.order.Recipe.the-variants.{Old, New}
 use Rattle.recorder.specs.Answers.{drive-failed, done, number, bytesOf}
 use Rattle.recorder.specs.declared.script.Op.{Op}
-use Rattle.recorder.specs.declared.script.Op.the-variants.{ModeSelect, SendCueSheet, CloseSession, Blank, TestUnitReady, RequestSense}
-use Rattle.recorder.specs.Script.{script, write as writing}
+use Rattle.recorder.specs.declared.script.Op.the-variants.{ModeSelect, SendCueSheet, SynchronizeCache, CloseTrack, CloseSession, Blank, TestUnitReady, RequestSense}
+use Rattle.recorder.specs.Script.{script, closings, write as writing}
 use Rattle.recorder.specs.Replies.{noSense}
 use Rattle.recorder.specs.Exchanges.{Exchange, progress, erased, unblank}
+use Rattle.recorder.specs.Recipes.{under}
 use Rattle.recorder.specs.Rules.{Found, none, found, refusal, ruled, play}
 use Rattle.recorder.specs.declared.job.Poll.{Poll}
 use Rattle.recorder.specs.declared.job.Poll.the-variants.{Off, Ready, Sense}
@@ -492,6 +492,56 @@ pub record AudioSheets : Type 0 where
       ∷ refusedIn (among 0 300 1) (twice (plain 0 0 752))
       ∷ []
       ≡ 3 ∷ 2 ∷ 0 ∷ []
+
+-- ---- document 02: by the new recipe
+
+abbrev pub newer : List ℕ → Order
+newer ls = under New (order Tao ls)
+
+-- the bytes that are given in a track at once of twice 300 blocks, k replies after the second 52h is due
+abbrev pub newerSecond : ℕ → List ℕ
+newerSecond k = givenIn (newer (300 ∷ 300 ∷ [])) (replicate 24 (plain 0 7 752) ++ replicate k (plain 0 459 300))
+
+pub record RecipeSheets : Type 0 where
+  -- "the count in TAO is 3n+3+W": one track of 300, 300 and 317
+  pub command-counts : length (script (newer (300 ∷ []))) ∷ length (script (newer (300 ∷ 317 ∷ []))) ∷ [] ≡ 25 ∷ 48 ∷ []
+  -- "after 35h the next 52h, or the final 5Bh function 2", and nothing after that
+  pub commands :
+      bytesAfter 23 (newer (300 ∷ [])) (plain 0 0 300)
+      ∷ bytesAfter 24 (newer (300 ∷ [])) (plain 0 0 300)
+      ∷ bytesAfter 25 (newer (300 ∷ [])) (plain 0 0 300)
+      ∷ newerSecond 0
+      ∷ newerSecond 21
+      ∷ newerSecond 22
+      ∷ []
+      ≡ (0x35 ∷ replicate 9 0)
+      ∷ (0x5B ∷ 0x00 ∷ 2 ∷ replicate 7 0)
+      ∷ []
+      ∷ (0x52 ∷ 0x01 ∷ 0 ∷ 0 ∷ 0 ∷ 0xFF ∷ 0 ∷ 0 ∷ 48 ∷ 0 ∷ [])
+      ∷ (0x35 ∷ replicate 9 0)
+      ∷ (0x5B ∷ 0x00 ∷ 2 ∷ replicate 7 0)
+      ∷ []
+  -- with flag bit 2 the 35h and the 5Bh are polled as before
+  pub polled :
+      bytesAfter 23 (immediate (newer (300 ∷ []))) (plain 0 0 300)
+      ∷ take 1 (bytesAfter 24 (immediate (newer (300 ∷ []))) (plain 0 0 300))
+      ∷ take 1 (bytesAfter 25 (immediate (newer (300 ∷ []))) (plain 0 0 300))
+      ∷ bytesAfter 26 (immediate (newer (300 ∷ []))) (plain 0 0 300)
+      ∷ take 1 (bytesAfter 28 (immediate (newer (300 ∷ []))) (plain 0 0 300))
+      ∷ bytesAfter 29 (immediate (newer (300 ∷ []))) (plain 0 0 300)
+      ∷ []
+      ≡ (0x35 ∷ 0x02 ∷ replicate 8 0) ∷ (0x00 ∷ []) ∷ (0x03 ∷ []) ∷ (0x5B ∷ 0x01 ∷ 2 ∷ replicate 7 0) ∷ (0x03 ∷ []) ∷ [] ∷ []
+  -- "every 35h and 5Bh" of that recipe
+  pub closed : closings (newer (300 ∷ 317 ∷ [])) ≡ SynchronizeCache (record { 0 = 1 }) ∷ SynchronizeCache (record { 0 = 2 }) ∷ CloseSession ∷ []
+  -- no forged state waits for function 1, as in SAO
+  pub forged :
+      passes (newer (300 ∷ [])) (CloseTrack (record { 0 = 1 })) 0
+      ∷ passes (order Sao (300 ∷ [])) (CloseTrack (record { 0 = 1 })) 0
+      ∷ passes (order Tao (300 ∷ [])) (CloseTrack (record { 0 = 1 })) 0
+      ∷ passes (newer (300 ∷ [])) (SynchronizeCache (record { 0 = 1 })) 0
+      ∷ passes (newer (300 ∷ [])) CloseSession 0
+      ∷ []
+      ≡ false ∷ false ∷ replicate 3 true
 
 -- ---- document 01's sheets that are marked *, in its order, as one list with one statement. What the byte layouts say of a sheet
 -- stands by name in mmc's `Bench`

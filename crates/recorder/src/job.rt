@@ -4,7 +4,7 @@ ghost use mathlib.Core.Bool.{_&&_};
 ghost use mathlib.Core.List.{[]};
 ghost use Rattle.recorder.specs.Answers.{issue, said, cdbOf};
 ghost use Rattle.recorder.specs.declared.job.Phase.the-variants.{Going};
-ghost use Rattle.recorder.specs.Bench.{StarredSheets, OtherSheets, PollSheets, EraseSheets, ChargeSheets, AudioSheets};
+ghost use Rattle.recorder.specs.Bench.{StarredSheets, OtherSheets, PollSheets, EraseSheets, ChargeSheets, AudioSheets, RecipeSheets};
 ghost use Rattle.recorder.specs.History.{Takes, Gives, Rests};
 ghost use Rattle.recorder.specs.Job.{dueAt, inOrder, inTime, inPiece, isWrite, standsAt, standsIn, standsPolled, standsErasing, restsAt, validOf, Prepared, commandOf, turnIn, advanced, onwardBy, turnOf, oneMore, stateOf, nextIn, nextOf, stepOf, opening};
 use crate::answers::Answer;
@@ -413,7 +413,7 @@ fn opening_at() -> Progress
 // A recorder that has taken no order: a reply to it is 13 and leaves it idle. Its contract also keeps the sheets from the bench, which hold
 // of the definitions that every step meets.
 pub fn idle() -> Recorder
-    ensures { λ r. ⌜ (Rests r) × StarredSheets × OtherSheets × PollSheets × EraseSheets × ChargeSheets × AudioSheets ⌝ }
+    ensures { λ r. ⌜ (Rests r) × StarredSheets × OtherSheets × PollSheets × EraseSheets × ChargeSheets × AudioSheets × RecipeSheets ⌝ }
 {
     let first = opening_at();
     let order = no_order();
