@@ -659,7 +659,7 @@ impl<'a> Maker<'a> {
 
     fn odd_track(&mut self, previous_end: Option<u64>) -> (Reply, String) {
         let mut fields = self.drive.track_fields();
-        let note = match self.rng.below(9) {
+        let note = match self.rng.below(10) {
             0 => {
                 fields.damaged = true;
                 "damaged".to_string()
@@ -832,9 +832,9 @@ fn polling(rng: &mut Rng, order: &Order) -> Polling {
 fn free_blocks(rng: &mut Rng, blocks: u64) -> u32 {
     let free = match rng.below(100) {
         0..=5 => blocks.saturating_sub(1),
-        6..=19 => blocks,
-        20..=24 => blocks + 1,
-        25..=29 => u64::from(u32::MAX),
+        6..=27 => blocks,
+        28..=32 => blocks + 1,
+        33..=37 => u64::from(u32::MAX),
         _ => blocks + rng.between(1_000, 400_000),
     };
     // Where the sum passes 32 bits, what is left of it is as odd as any.
@@ -847,8 +847,8 @@ fn free_blocks(rng: &mut Rng, blocks: u64) -> u32 {
 
 fn first_address(rng: &mut Rng, method: Method, blocks: u64) -> u32 {
     let address = match rng.below(100) {
-        0..=26 => 0,
-        27..=40 => LIMIT.saturating_sub(blocks),
+        0..=21 => 0,
+        22..=40 => LIMIT.saturating_sub(blocks),
         41..=46 => LIMIT.saturating_sub(blocks) + 1,
         47..=48 => LIMIT.saturating_sub(blocks + 1),
         49 => (1 << 32) - 150,
@@ -1052,7 +1052,7 @@ mod tests {
             .flat_map(|_| spares(&job(&mut rng).bytes))
             .collect();
         for sort in [0, 1] {
-            for (over, least) in [(0, 35), (-1, 5), (1, 5)] {
+            for (over, least) in [(0, 60), (-1, 5), (1, 5)] {
                 let found = all.iter().filter(|spare| spare[sort] == over).count();
                 assert!(found >= least, "{sort} {over}: {found}");
             }
@@ -1066,7 +1066,7 @@ mod tests {
         let mut rng = Rng::new(9);
         let mut found: BTreeMap<(bool, [u8; 2]), u32> = BTreeMap::new();
         let mut all = 0;
-        for _ in 0..JOBS {
+        for _ in 0..2 * JOBS {
             let bytes = job(&mut rng).bytes;
             if outcome(&bytes).0 != Some(24) {
                 continue;
@@ -1078,7 +1078,7 @@ mod tests {
                 *found.entry(sort).or_default() += 1;
             }
         }
-        assert!(all > 120, "{all}");
+        assert!(all > 240, "{all}");
         assert!(
             found.len() == 6 && found.values().all(|&n| n > 1),
             "{found:?}"
