@@ -8,7 +8,7 @@ returns c = rw (c .before .before .enum-told .given .1, c .enum-told2 .given .1)
 returns-2 : tie.Need-returns-2
 returns-2 c =
     let r = c .before in
-    rw (c .after-track .ensures, r .before .before .enum-told .given .1, r .enum-told3 .given .1)
+    simp (c .after-track .ensures, r .before .before .enum-told .given .1, r .enum-told3 .given .1)
 
 pub after-synchronize-spec : {M : Type 1} → statement M
 after-synchronize-spec =
