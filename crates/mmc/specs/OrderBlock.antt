@@ -120,10 +120,11 @@ fieldsOf b =
 unfoldable pub headOk : List ℕ → Bool
 headOk b = (eqb (getD b 0 0) 1 && leb 1 (getD b 1 0)) && (leb (getD b 1 0) lastMethod && leb (getD b 2 0) lastFlags)
 
--- so has the recipe, and "all else up to byte 509 is 0"
+-- the recipe has a listed value, and "all else up to byte 509 is 0"
 abbrev pub restOk : List ℕ → Bool
 restOk b = leb (getD b 499 0) lastRecipe && allZero (take 10 (drop 500 b))
 
+-- every field has a listed value, and all else is 0
 unfoldable pub orderOk : List ℕ → Bool
 orderOk b = headOk b && (kindsOk mostTracks (drop 4 b) && (validOrder (fieldsOf b) && restOk b))
 

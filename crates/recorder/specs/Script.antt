@@ -142,7 +142,7 @@ abbrev pub closeBy : Recipe → ℕ → List Op → List Op
 closeBy Old t after = CloseTrack (record { 0 = t }) ∷ after
 closeBy New t after = after
 
--- so function 1 stands in a script, or does not
+-- whether function 1 closes the tracks
 abbrev pub closesTracks : Method → Recipe → Bool
 closesTracks Tao q = not (isNew q)
 closesTracks Sao q = false
