@@ -29,6 +29,7 @@ use Rattle.recorder.proofs.Scripts.{by}
 pub record Sized (o : Order) : Type 0 where
   pub some : 1 ≤ o .count
   pub few : o .count ≤ mostTracks
+  pub rows : length (o .tracks) ≡ mostTracks
   pub all : length (tracksIn o) ≡ o .count
   pub valid : validOrder o ≡ true
 

@@ -15,8 +15,7 @@ use Rattle.mmc.specs.Page.{page, modeBytes, pageFault, modeData}
 use Rattle.mmc.specs.ReplyBlock.{Reply, replyOf}
 use Rattle.mmc.specs.declared.order.Order.{Order}
 use Rattle.mmc.specs.declared.order.Kind.{Kind}
-use Rattle.mmc.specs.declared.order.Method.{Method}
-use Rattle.mmc.specs.declared.order.Method.the-variants.{Tao, Sao}
+use Rattle.mmc.specs.declared.order.Method.the-variants.{Tao}
 use Rattle.mmc.specs.declared.order.Recipe.{Recipe}
 use Rattle.mmc.specs.declared.order.Recipe.the-variants.{Old, New}
 use Rattle.recorder.specs.declared.script.Op.{Op}
@@ -30,7 +29,7 @@ use Rattle.recorder.specs.Answers.{Why, because, Ruling, issue, done, st
 use Rattle.recorder.specs.Script.{isPoll, isErasing, stepwise, write, Block}
 use Rattle.recorder.specs.Exchanges.{Exchange, recorded, occupied, polling, progress, profile, disc, erased, unblank, seen, named}
 use Rattle.recorder.specs.Rules.{left, none, found, refusal, ruled, exchanged, play, orderedIn, AllClosed}
-use Rattle.recorder.specs.Recipes.{under, others, latestOfFunction1, repliesIn, bytesGiven}
+use Rattle.recorder.specs.Recipes.{under, others, repliesIn, bytesGiven}
 use Rattle.recorder.specs.Job.{Next, nextIn, dueAt, commandOf, mostCommands, latestProgress, unchanged, validOf, takenAs, takeOf, giveOf}
 use Rattle.recorder.specs.History.{History, taken, given, givenAll, history, commandIn, commands, going, as-done, as-stop, ending, ended, phaseIn, Accompanied, OfAnswer, Every, Fresh, Unskipped, RightlyErased, ErasesRightly, BlankBefore, WritesOnBlank, HasAudio, isOpening, OnlyOpens, ButFunction1, exactCount, AllWell, unpolled, answered, AllGood, Whole, Takes, Gives}
 use Rattle.recorder.proofs.Lists.{if-yes, if-no, clash, false-true, same-order}
@@ -48,7 +47,7 @@ use Rattle.recorder.proofs.Behind.{Sized}
 use Rattle.recorder.proofs.Moves.{at, behindAt, planAt}
 use Rattle.recorder.proofs.Leads.{same-command, give-made, take-made}
 use Rattle.recorder.proofs.States.{stood-stands, stood-fresh, stood-accompanied, stood-shows}
-use Rattle.recorder.proofs.Orders.{read-sized}
+use Rattle.recorder.proofs.Orders.{read-sized, newer-block}
 use Rattle.recorder.proofs.Steps.{waiting, Going, Inv, open-so, over-so, no-exchange, ended-valid, give-over, next-inv}
 
 -- ---- every list of replies
@@ -472,6 +471,7 @@ takes b s e =
       begins = record { is-last = e; whole = whole b [] };
       script-length = λ o q. script-length o (read-sized b o q .all);
       scripts-agree = λ o q. script-others o;
+      newer = λ o q. newer-block b o q;
       needs = λ o q. needs-all o;
       can-pass = λ o q ok p d su. can-pass o (read-sized b o q) ok p d su;
     }

@@ -1,4 +1,4 @@
--- An order as it is read from a block has 1 to 99 tracks.
+-- An order as it is read from a block has 1 to 99 tracks, and a track at once has a block by the new recipe too.
 use mathlib.Core.Path.{_≡_, refl, ap, subst}
 use mathlib.Core.Bool.{Bool, true, false}
 use mathlib.Core.List.{List}
@@ -11,9 +11,13 @@ use Rattle.basics.specs.Bytes.{if}
 use Rattle.mmc.specs.Refusals.{pass, refuse, valueOr}
 use Rattle.mmc.specs.Block.{blockFault, blockRead}
 use Rattle.mmc.specs.Order.{mostTracks, validOrder}
-use Rattle.mmc.specs.OrderBlock.{tracksOf, kindsOk, fieldsOf, headOk, orderOk, readOrder}
+use Rattle.mmc.specs.OrderBlock.{orderBytes, orderBlock, tracksOf, kindsOk, fieldsOf, headOk, orderOk, readOrder}
 use Rattle.mmc.specs.declared.order.Order.{Order}
-use Rattle.recorder.proofs.Lists.{clash, both}
+use Rattle.mmc.specs.declared.order.Method.the-variants.{Tao}
+use Rattle.mmc.specs.declared.order.Recipe.the-variants.{New}
+use Rattle.mmc.proofs.order_block.Laws.{reads-back}
+use Rattle.recorder.specs.Recipes.{under}
+use Rattle.recorder.proofs.Lists.{if-yes, clash, both}
 use Rattle.recorder.proofs.Behind.{Sized}
 
 rows-length : (k : ℕ) (b : List ℕ) → length (tracksOf k b) ≡ k
@@ -27,7 +31,8 @@ fields-sized b v =
     let n = both (leb 1 (getD b 3 0)) _ v in
     let m = both (leb (getD b 3 0) mostTracks) _ (n .1) in
     let few : getD b 3 0 ≤ mostTracks = leb-true _ _ (m .0) in
-    record { some = leb-true _ _ (n .0); few = few; all = omega (arith, length-take (getD b 3 0) (tracksOf 99 (drop 4 b)), rows-length 99 (drop 4 b)); valid = v }
+    let rows = rows-length 99 (drop 4 b) in
+    record { some = leb-true _ _ (n .0); few = few; rows = rows; all = omega (arith, length-take (getD b 3 0) (tracksOf 99 (drop 4 b)), rows); valid = v }
 
 pub read-sized : (b : List ℕ) (o : Order) → readOrder b ≡ pass o → Sized o
 unfolding readOrder blockRead orderOk
@@ -39,3 +44,17 @@ read-sized b o = go (eqb (blockFault b) 0) (orderOk b) refl
         subst Sized (ap (valueOr (fieldsOf b)) e) (fields-sized b v)
     go true false q e = clash (cc)
     go false y q e = clash (cc)
+
+-- ---- by the new recipe
+
+valid-newer : (o : Order) → o .method ≡ Tao → validOrder o ≡ true → validOrder (under New o) ≡ true
+unfolding validOrder
+valid-newer o t v = rw t (rw t at v)
+
+-- a track at once has a block by the new recipe
+pub newer-block : (b : List ℕ) (o : Order) → readOrder b ≡ pass o → o .method ≡ Tao → (c : List ℕ) × (readOrder c ≡ pass (under New o))
+unfolding orderBlock
+newer-block b o e t =
+    let z = read-sized b o e in
+    let v = valid-newer o t (z .valid) in
+    (orderBytes (under New o), reads-back (under New o) (z .rows) (orderBytes (under New o)) (if-yes _ _ v))

@@ -8,7 +8,6 @@ use Rattle.mmc.specs.Refusals.{Outcome, pass}
 use Rattle.mmc.specs.Order.{tracksIn, mixedOrKept}
 use Rattle.mmc.specs.Times.{leadFrames, addressAt}
 use Rattle.mmc.specs.ReplyBlock.{Reply}
-use Rattle.mmc.specs.declared.units.FrameCount.{FrameCount}
 use Rattle.mmc.specs.declared.order.Order.{Order}
 use Rattle.mmc.specs.declared.order.Track.{Track}
 use Rattle.mmc.specs.declared.order.Method.{Method}
@@ -16,18 +15,17 @@ use Rattle.mmc.specs.declared.order.Method.the-variants.{Tao, Sao}
 use Rattle.mmc.specs.declared.order.Recipe.the-variants.{Old, New}
 use Rattle.recorder.specs.declared.script.Op.{Op}
 use Rattle.recorder.specs.declared.script.Op.the-variants.{GetConfiguration, ReadDiscInformation, ReadTrackInformation, ModeSelect, SendCueSheet, Write, SynchronizeCache, CloseTrack, CloseSession, Blank, TestUnitReady, RequestSense}
-use Rattle.recorder.specs.declared.answers.Command.{Command}
 use Rattle.recorder.specs.declared.replies.Reading.{Reading}
 use Rattle.recorder.specs.declared.replies.Reading.the-variants.{Busy, NotReady, Failed, Malformed, Profile, Disc, Information, ProgressIndication, Unread}
 use Rattle.recorder.specs.declared.exchanges.Seen.{Seen}
 use Rattle.recorder.specs.Answers.{Why, Ruling, done, stop}
 use Rattle.recorder.specs.Replies.{reading}
-use Rattle.recorder.specs.Script.{isPoll, polls, erasing, isPolled, write, portion, writesFor, writes, writesFrom, eachTrack, script}
+use Rattle.recorder.specs.Script.{isPoll, polls, erasing, write, portion, writesFor, writes, writesFrom, eachTrack, script}
 use Rattle.recorder.specs.Exchanges.{Exchange, see, seen}
-use Rattle.recorder.specs.Rules.{tooLong, Judgement, again, onward, refused, pollsIf, isLast, judge, judged, rest, move, left, Found, none, found, orElse, refusedBy, firstRefused, answerTo, ruled, exchanged, play}
+use Rattle.recorder.specs.Rules.{tooLong, Judgement, onward, refused, pollsIf, isLast, judge, judged, rest, move, left, none, found, refusedBy, firstRefused, ruled, exchanged, play}
 use Rattle.recorder.specs.Recipes.{under, isFunction1, otherOps, closingTrack, ofFunction1, others, latestOfFunction1, repliesIn}
 use Rattle.recorder.proofs.Lists.{if-yes, if-no, clash, false-true, none-found}
-use Rattle.recorder.proofs.Turns.{made, Played, nothing, then, Reads, busy, not-ready, failed, malformed, a46, a51, a52, a03, profile, status, information, indication, ready, unread, reads, Turn, repeats, refuses, works, polls-begin, erases-first, asks, polls-on, polls-end, turn}
+use Rattle.recorder.proofs.Turns.{made, Played, nothing, then, Reads, busy, not-ready, failed, malformed, profile, status, information, indication, ready, unread, reads, Turn, repeats, refuses, works, polls-begin, erases-first, asks, polls-on, polls-end, turn}
 use Rattle.recorder.proofs.Plans.{Scripted, scripted-before}
 use Rattle.recorder.proofs.Scripts.{by, scripted}
 use Rattle.recorder.proofs.Rulings.{refused-next, unrefused-last, is-done, ruled-at, ruled-stop, rule-stop}

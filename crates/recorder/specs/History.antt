@@ -386,12 +386,13 @@ pub record OfHistory (b : List ℕ) (rs : List Reply) (s : Next) : Type 0 where
   pub whole : Whole b rs (history b rs)
 
 -- `take`: the plain job's step, demand 3 of the empty list of replies, the exact count, that the scripts of the two recipes differ in function 1
--- alone, that what is needed is what such a drive takes, and that replies exist for part 7
+-- alone and that a block holds the order by the new one, that what is needed is what such a drive takes, and that replies exist for part 7
 pub record Takes (b : List ℕ) (s : Step) : Type 0 where
   pub step : nextIn s ≡ takeOf b
   pub begins : OfHistory b [] (nextIn s)
   pub script-length : (o : Order) → readOrder b ≡ pass o → length (script o) ≡ expected o
   pub scripts-agree : (o : Order) → readOrder b ≡ pass o → otherOps (script (under Old o)) ≡ script (under New o)
+  pub newer : (o : Order) → readOrder b ≡ pass o → o .method ≡ Tao → (c : List ℕ) × (readOrder c ≡ pass (under New o))
   pub needs : (o : Order) → readOrder b ≡ pass o → (t a : ℕ) → a + needed o t ≡ lastEnd (o .method) a (toCome o t)
   pub can-pass : (o : Order) → readOrder b ≡ pass o → Recordable o → (p : ℕ) (d : DiscInformation) → Suitable o p d → (rs : List Reply) × Passing o p d rs
 

@@ -26,8 +26,7 @@ use Rattle.mmc.specs.declared.order.Track.{Track}
 use Rattle.mmc.specs.declared.order.Kind.{Kind}
 use Rattle.mmc.specs.declared.order.Kind.the-variants.{Audio, Data}
 use Rattle.mmc.specs.declared.order.Method.the-variants.{Sao}
-use Rattle.mmc.specs.declared.order.Recipe.{Recipe}
-use Rattle.mmc.specs.declared.order.Recipe.the-variants.{Old, New}
+use Rattle.mmc.specs.declared.order.Recipe.the-variants.{Old}
 use Rattle.mmc.specs.declared.sheet.Sheet.{Sheet}
 
 -- ---- what is made reads back
