@@ -1,5 +1,7 @@
 // Text as ASCII codes, written into a lent buffer behind an index. Each function writes its text whole and answers the index behind it;
 // where the text does not fit there, the buffer stays as it is and the index comes back.
+#![tactic(auto)]
+
 ghost use Rattle.std.specs.Prelude.{◌≡◌, ◌+◌, ◌*◌, ◌/◌, ◌%◌, ◌≤◌, ◌<◌, length, set};
 ghost use Rattle.ascii.specs.Text.{digit, parted, decimal, Adds};
 ghost use Rattle.ascii.specs.Bench.{ExampleCodes};

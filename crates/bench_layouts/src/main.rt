@@ -3,6 +3,8 @@
 // 4,096, and the payload. The payload's first byte is the operation; its arguments stand at fixed
 // places behind it (request.rt), and what is missing of them is 0. The lines are those of the second
 // program's tool `layouts`, whose tool `pack` makes the binary form from the text form.
+#![tactic(auto)]
+
 mod line;
 mod makers;
 mod readers;

@@ -12,7 +12,7 @@ use crate::titles::count_titles;
 use mmc::bytes::{fill, same};
 
 // Where some text ends: the track of the title that goes on, and how many of its characters have come.
-#[derive(Drop)]
+#[derive(Clone, Copy)]
 pub(crate) struct Place {
     pub track: usize,
     pub count: usize,

@@ -3,7 +3,7 @@ ghost use Rattle.std.specs.Prelude.{◌≡◌};
 ghost use Rattle.cdtext.specs.Refusals.{number_of};
 
 // Why an input is refused.
-#[derive(Drop)]
+#[derive(Clone, Copy)]
 pub enum Refusal {
     ShortBuffer,
     TitleNotAllowed,
@@ -12,14 +12,14 @@ pub enum Refusal {
 }
 
 // What the maker answers: so many packs stand at the start of the lent buffer, or none of it was touched.
-#[derive(Drop)]
+#[derive(Clone, Copy)]
 pub enum Made {
     Packs(usize),
     Refused(Refusal),
 }
 
 // What the reader answers: a run of titles, so many bytes long, stands there, or none of it was touched.
-#[derive(Drop)]
+#[derive(Clone, Copy)]
 pub enum Read {
     Titles(usize),
     Refused(Refusal),

@@ -1,4 +1,6 @@
 // The conversion of addresses and times alone, under C names: trials/gate looks at its machine code, and bench/conversion times it.
+#![tactic(auto)]
+
 ghost use Rattle.std.specs.Prelude.{◌≡◌};
 ghost use Rattle.conversion.specs.Conversion.{number_given, time_given, address_given};
 ghost use Rattle.mmc.specs.Times.{time_of, address_of};

@@ -1,5 +1,7 @@
 // The lines that the programs write, each put whole into a lent buffer. Here are those of the print program: each answer of the recorder
 // as a line of text.
+#![tactic(auto)]
+
 pub mod shown;
 mod text;
 

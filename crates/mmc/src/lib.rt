@@ -1,5 +1,7 @@
 // The byte layouts of CD recording: order and reply blocks, times, the write parameters page, the cue
 // sheet and the commands. Every routine takes any input and answers with a value or a refusal.
+#![tactic(auto)]
+
 mod block;
 pub mod bytes;
 pub mod commands;

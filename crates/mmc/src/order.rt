@@ -6,33 +6,33 @@ use crate::times::LAST_ADDRESS;
 use crate::units::{BlockCount, BlockSum};
 
 // Track at once, or session at once.
-#[derive(Drop)]
+#[derive(Clone, Copy)]
 pub enum Method {
     Tao,
     Sao,
 }
 
 // How a track at once is closed: by CLOSE TRACK SESSION function 1 after SYNCHRONIZE CACHE, or by SYNCHRONIZE CACHE alone.
-#[derive(Drop)]
+#[derive(Clone, Copy)]
 pub enum Recipe {
     Old,
     New,
 }
 
-#[derive(Drop)]
+#[derive(Clone, Copy)]
 pub enum Kind {
     Audio,
     Data,
 }
 
-#[derive(Drop)]
+#[derive(Clone, Copy)]
 pub struct Track {
     pub kind: Kind,
     pub length: BlockCount,
 }
 
 // The first count of the tracks are ordered; the rest are no tracks: audio, of no block.
-#[derive(Drop)]
+#[derive(Clone, Copy)]
 pub struct Order {
     pub method: Method,
     pub keep: bool,

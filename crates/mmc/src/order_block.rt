@@ -13,7 +13,7 @@ use crate::refusals::{Check, Made, Refusal};
 use crate::units::BlockCount;
 
 // The order where the check passed; where it did not, no order.
-#[derive(Drop)]
+#[derive(Clone, Copy)]
 pub struct OrderRead {
     pub check: Check,
     pub order: Order,

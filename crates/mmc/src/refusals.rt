@@ -3,7 +3,7 @@ ghost use Rattle.std.specs.Prelude.{◌≡◌};
 ghost use Rattle.mmc.specs.Refusals.{number_of};
 
 // Why an input is refused.
-#[derive(Drop)]
+#[derive(Clone, Copy)]
 pub enum Refusal {
     BlockLength,
     BlockCheck,
@@ -25,14 +25,14 @@ pub enum Refusal {
 }
 
 // What a maker answers: so many bytes stand at the start of the lent buffer, or none was touched.
-#[derive(Drop)]
+#[derive(Clone, Copy)]
 pub enum Made {
     Bytes(usize),
     Refused(Refusal),
 }
 
 // What a test answers. A reader's value stands beside it.
-#[derive(Drop)]
+#[derive(Clone, Copy)]
 pub enum Check {
     Passed,
     Refused(Refusal),

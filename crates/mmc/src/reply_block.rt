@@ -9,7 +9,7 @@ use crate::bytes::{all_zero, fill, number16, put};
 use crate::refusals::{Check, Made, Refusal};
 
 // A reply: good or failed, with so many bytes of data from byte 4 of its block on.
-#[derive(Drop)]
+#[derive(Clone, Copy)]
 pub enum ReplyRead {
     Good(usize),
     Failed(usize),

@@ -16,7 +16,7 @@ use crate::times::{FIRST_ADDRESS, Time, frames_of, time_at};
 use crate::units::{BlockAddress, BlockCount, FrameCount, TrackNumber};
 
 // What a cue sheet reads back to: the kind of all its tracks, and their lengths, of which the first count are there.
-#[derive(Drop)]
+#[derive(Clone, Copy)]
 pub struct Sheet {
     pub kind: Kind,
     pub count: u8,
@@ -24,7 +24,7 @@ pub struct Sheet {
 }
 
 // The sheet where the check passed; where it did not, no sheet.
-#[derive(Drop)]
+#[derive(Clone, Copy)]
 pub struct SheetRead {
     pub check: Check,
     pub sheet: Sheet,

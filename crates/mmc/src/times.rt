@@ -6,20 +6,20 @@ ghost use Rattle.mmc.specs.Times.{in_range, has_time, frames_to, address_at, tim
 use crate::refusals::Refusal;
 use crate::units::{BlockAddress, FrameCount};
 
-#[derive(Drop)]
+#[derive(Clone, Copy)]
 pub struct Time {
     pub minute: u8,
     pub second: u8,
     pub frame: u8,
 }
 
-#[derive(Drop)]
+#[derive(Clone, Copy)]
 pub enum TimeAnswer {
     At(Time),
     Refused(Refusal),
 }
 
-#[derive(Drop)]
+#[derive(Clone, Copy)]
 pub enum AddressAnswer {
     At(BlockAddress),
     Refused(Refusal),

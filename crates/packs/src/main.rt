@@ -7,6 +7,8 @@
 //
 // An answer: 0, or the refusal's number; in two bytes the number of packs, the length of the run of titles, or the check bytes, and
 // 0 where refused; then the lent buffer, which was filled with A5h beforehand.
+#![tactic(auto)]
+
 ghost use Rattle.std.specs.Prelude.{◌≡◌, true, false, [], ◌∷◌, ◌++◌, ◌+◌, ◌≤◌, length, take, drop, replicate};
 ghost use Rattle.basics.specs.Bytes.{bytes16};
 ghost use Rattle.cdtext.specs.Refusals.{number_of};
@@ -21,7 +23,7 @@ use libc::{STDIN_FILENO, STDOUT_FILENO};
 use mmc::bytes::number16;
 
 // What stands before the lent buffer in an answer.
-#[derive(Drop)]
+#[derive(Clone, Copy)]
 struct Head {
     refusal: u8,
     amount: u16,
@@ -102,7 +104,7 @@ const MOST_ROOM: usize = 8192;
 const MOST_SIZE: usize = 32768;
 
 // What the head of a request says: the operation, and the lengths of the lent buffer and of the payload.
-#[derive(Drop)]
+#[derive(Clone, Copy)]
 struct Request {
     operation: u8,
     room: usize,

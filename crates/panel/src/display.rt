@@ -8,7 +8,7 @@ use recorder::job::{Phase, Poll, Progress, Recorder};
 use recorder::replies::Sense;
 
 // One of four things: idle, busy with its fraction, finished, or stopped with its number. 12 has its triple beside it, any other zeros.
-#[derive(Drop)]
+#[derive(Clone, Copy)]
 pub enum Panel {
     Idle,
     Busy(f64),

@@ -7,7 +7,7 @@ use recorder::answers::{Answer, Cdb};
 use recorder::job::{Recorder, Step};
 
 // What comes out of a reply beside the next state: a command or an end, the count of commands, and the command's bytes.
-#[derive(Drop)]
+#[derive(Clone, Copy)]
 pub struct Given {
     pub answer: Answer,
     pub count: u64,
@@ -44,7 +44,7 @@ pub fn give_in_place(r: &mut Recorder, good: bool, bytes: &[u8]) -> Given
 }
 
 // A recorder after a reply, and what came out beside it.
-#[derive(Drop)]
+#[derive(Clone, Copy)]
 pub struct Held {
     pub recorder: Recorder,
     pub given: Given,

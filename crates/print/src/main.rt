@@ -1,6 +1,8 @@
 // Document 01's print program: an order block and then reply blocks on standard input, and on standard output each
 // command as a line of hex bytes and last `done N`, `stop R N` or `waiting N`. Where its output can't be written, it
 // says so on standard error.
+#![tactic(auto)]
+
 mod run;
 
 ghost use Rattle.std.specs.Prelude.{◌≡◌, false, ◌+◌, ◌%◌, ◌≤◌, ◌<◌, length};
@@ -38,7 +40,7 @@ fn read_blocks(input: &mut [u8]) -> usize
 }
 
 // A run whose text was written, and whether the output took all of it.
-#[derive(Drop)]
+#[derive(Clone, Copy)]
 struct Sent {
     run: Run,
     out: bool,

@@ -11,7 +11,7 @@ use recorder::answers::{Answer, Cdb};
 use recorder::job::{Recorder, Step, take};
 
 // The recorder's state, whether it waits for a reply, and how many bytes of the text are used.
-#[derive(Drop)]
+#[derive(Clone, Copy)]
 pub struct Run {
     pub state: Recorder,
     pub waiting: bool,
@@ -19,7 +19,7 @@ pub struct Run {
 }
 
 // Whether a reply is awaited after a line, and how many bytes of the text are used.
-#[derive(Drop)]
+#[derive(Clone, Copy)]
 struct Line {
     waiting: bool,
     used: usize,

@@ -14,14 +14,14 @@ use mmc::refusals::{Made, Refusal};
 use mmc::units::{BlockAddress, TrackNumber};
 
 // A command for the drive: an operation, and the address where the next block goes, at which a WRITE starts.
-#[derive(Drop)]
+#[derive(Clone, Copy)]
 pub struct Command {
     pub op: Op,
     pub address: BlockAddress,
 }
 
 // What a call answers.
-#[derive(Drop)]
+#[derive(Clone, Copy)]
 pub enum Answer {
     Issue(Command),
     Done,
@@ -30,7 +30,7 @@ pub enum Answer {
 }
 
 // The command descriptor block of a command: so many bytes, and zeros behind them. Where no command is given there are none.
-#[derive(Drop)]
+#[derive(Clone, Copy)]
 pub struct Cdb {
     pub bytes: [u8; 12],
     pub length: usize,

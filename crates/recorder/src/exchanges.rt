@@ -15,7 +15,7 @@ use mmc::units::{BlockAddress, FrameCount};
 // plus 150): the address of the latest READ TRACK INFORMATION in a track at once, or the end of the last WRITE; whether the disc was
 // erased; whether TEST UNIT READY was answered good and nothing but busy since. Beside these the latest progress of a polling, which
 // the panel shows.
-#[derive(Drop)]
+#[derive(Clone, Copy)]
 pub struct Seen {
     pub profile: u16,
     pub status: u8,

@@ -20,7 +20,7 @@ use mmc::refusals::{Check, Refusal, number};
 use mmc::units::FrameCount;
 
 // Whether no order was taken yet, a job goes on, or how it ended: as done, with a number of document 01, or with 12 and the triple.
-#[derive(Drop)]
+#[derive(Clone, Copy)]
 pub enum Phase {
     Idle,
     Going,
@@ -30,7 +30,7 @@ pub enum Phase {
 }
 
 // Whether the operation at the place is polled, and then which poll is under way: TEST UNIT READY or REQUEST SENSE.
-#[derive(Drop)]
+#[derive(Clone, Copy)]
 pub enum Poll {
     Off,
     Ready,
@@ -39,7 +39,7 @@ pub enum Poll {
 
 // Where the job stands: the operation of the script whose reply or whose polling's end is awaited, its polling, and what was seen in the
 // replies so far.
-#[derive(Drop)]
+#[derive(Clone, Copy)]
 pub struct Progress {
     pub place: Op,
     pub poll: Poll,
@@ -48,7 +48,7 @@ pub struct Progress {
 
 // The recorder's state: the order, where the job stands, whether it goes on, and how many commands were given since the order was
 // taken. A recorder that has taken none is idle.
-#[derive(Drop)]
+#[derive(Clone, Copy)]
 pub struct Recorder {
     pub order: Order,
     pub progress: Progress,
@@ -57,7 +57,7 @@ pub struct Recorder {
 }
 
 // What comes out of a call: the next state, a command or an end, the count of commands, and the command's bytes.
-#[derive(Drop)]
+#[derive(Clone, Copy)]
 pub struct Step {
     pub state: Recorder,
     pub answer: Answer,
@@ -66,7 +66,7 @@ pub struct Step {
 }
 
 // What a reply leads to: the next command, the end as done, or a stop.
-#[derive(Drop)]
+#[derive(Clone, Copy)]
 enum Move {
     Onward(Progress),
     Finish,

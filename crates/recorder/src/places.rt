@@ -9,7 +9,7 @@ use mmc::times::LEAD_FRAMES;
 use mmc::units::{BlockCount, TrackNumber};
 
 // What comes after an operation.
-#[derive(Drop)]
+#[derive(Clone, Copy)]
 pub(crate) enum Following {
     Next(Op),
     Nothing,

@@ -8,7 +8,7 @@ use mmc::bytes::{byte_at, number16, number32};
 use mmc::units::{BlockAddress, BlockCount};
 
 // The triple of a failed reply: sense key, additional sense code, additional sense code qualifier.
-#[derive(Drop)]
+#[derive(Clone, Copy)]
 pub struct Sense {
     pub key: u8,
     pub asc: u8,
@@ -16,14 +16,14 @@ pub struct Sense {
 }
 
 // The fields of a disc: its status, and whether it can be erased.
-#[derive(Drop)]
+#[derive(Clone, Copy)]
 pub struct DiscInformation {
     pub status: u8,
     pub erasable: bool,
 }
 
 // The fields of a track that is about to be written: Damage, NWA_V, Next Writable Address, Free Blocks.
-#[derive(Drop)]
+#[derive(Clone, Copy)]
 pub struct TrackInformation {
     pub damaged: bool,
     pub addressed: bool,
@@ -33,7 +33,7 @@ pub struct TrackInformation {
 
 // What a reply says: of a failed one, that the drive is busy and took nothing, that it is not ready yet (of TEST UNIT READY), or that it
 // failed; of a good one, that it is too short or of another type, the fields that are named for its command, or nothing that is read.
-#[derive(Drop)]
+#[derive(Clone, Copy)]
 pub enum Reading {
     Busy,
     NotReady,

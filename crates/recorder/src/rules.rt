@@ -19,7 +19,7 @@ use mmc::times;
 use mmc::units::{BlockSum, FrameCount};
 
 // How a reply is judged: the same command again, onward, onward with a round of polls or an erasing first, or a stop.
-#[derive(Drop)]
+#[derive(Clone, Copy)]
 pub(crate) enum Verdict {
     Again,
     Onward,

@@ -8,7 +8,7 @@ use mmc::units::{BlockCount, TrackNumber};
 // A command without its address. A WRITE has its track (0: the pause), its first block there, from 0 on, and its count; MODE SELECT
 // is for a track, READ TRACK INFORMATION comes before one, SYNCHRONIZE CACHE and the closing of a track after one. BLANK erases the
 // disc. The last two poll.
-#[derive(Drop)]
+#[derive(Clone, Copy)]
 pub enum Op {
     GetConfiguration,
     ReadDiscInformation,

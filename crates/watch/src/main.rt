@@ -1,6 +1,8 @@
 // The panel program: it reads an order block and then reply blocks from standard input, as the print program does, and shows before
 // these and after each of them what the panel shows, as a line that a person can read. On a terminal each line takes the place of the
 // one before. Where its output can't be written, it says so on standard error.
+#![tactic(auto)]
+
 mod stage;
 
 ghost use Rattle.std.specs.Prelude.{◌≡◌, true, false, ◌&&◌, ◌≤◌, length};
@@ -13,7 +15,7 @@ use libc::{STDERR_FILENO, STDIN_FILENO, STDOUT_FILENO};
 use recorder::job::idle;
 
 // Where the program stands once its line is written, and whether the output took all of it.
-#[derive(Drop)]
+#[derive(Clone, Copy)]
 struct Sent {
     watch: Watch,
     out: bool,

@@ -13,7 +13,7 @@ use panel::step::lend;
 use recorder::job::{Phase, Recorder, take};
 
 // The recorder that is held, whether a reply is awaited, and how many bytes of the buffer the line has.
-#[derive(Drop)]
+#[derive(Clone, Copy)]
 pub struct Watch {
     pub recorder: Recorder,
     pub waiting: bool,
