@@ -1,0 +1,11 @@
+use borrow.Author.Tests.{eq-eqb, ne_eqb}
+use Rattle.mmc.specs.OrderBlock.{method_of}
+use Rattle.mmc.proofs.order_block.method_of.Goals as goal
+
+pub returns-then-n-eq1 : goal.returns-then-n-eq1
+unfolding method_of
+returns-then-n-eq1 c = simp (eq-eqb _ _ c.if-n-eq1.true)
+
+pub returns-else-n-eq1 : goal.returns-else-n-eq1
+unfolding method_of
+returns-else-n-eq1 c = simp (ne_eqb _ _ c.if-n-eq1.false)
