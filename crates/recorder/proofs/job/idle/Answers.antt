@@ -1,0 +1,6 @@
+use Rattle.recorder.proofs.Bench.{starred_sheets, other_sheets, poll_sheets, erase_sheets, charge_sheets, audio_sheets, recipe_sheets}
+use Rattle.recorder.proofs.job.Laws.{rests}
+use Rattle.recorder.proofs.job.idle.Goals as goal
+
+pub returns : goal.returns
+returns c = (rests _ (rw (c.no_order-order.ensures, c.opening_at-first.ensures)), starred_sheets, other_sheets, poll_sheets, erase_sheets, charge_sheets, audio_sheets, recipe_sheets)
