@@ -22,7 +22,7 @@ use Rattle.recorder.specs.Exchanges.{Exchange, erased, seen}
 use Rattle.recorder.specs.Rules.{audio_by, audio_in_tao, used, Judgement, tested, erasing_tests, blank_tests, disc_tests, erases, erasing_if, opening_tests, later_tests, judge, judged, move, left}
 use Rattle.recorder.specs.History.{Each, HasAudio, is_opening, OnlyOpens}
 use Rattle.recorder.proofs.Lists.{false_true, clash, never, tested_by}
-use Rattle.recorder.proofs.Turns.{made, Played, nothing, then, Reads, busy, failed, malformed, a46, a51, a52, profile, status, information, unread, reads, erased_seen}
+use Rattle.recorder.proofs.Turns.{a03, not_ready_lem, indication, ready, made, Played, nothing, then, Reads, busy, failed, malformed, a46, a51, a52, profile, status, information, unread, reads, erased_seen}
 use Rattle.recorder.proofs.Scripts.{by}
 
 -- ---- 24 applies just where an audio track stands in a track at once
@@ -115,6 +115,10 @@ module _ (o : Order) (a : audio_in_tao o ≡ true) (v : Seen) where
   opens_by x l g r n (malformed a52) (at_52 e) = at_52 e
   opens_by x l g r n (information {i = i}) (at_52 e) = at_track i l o.erase e
   opens_by x l g r n (unread q i) (at_52 e) = absurd (false_true (sym q))
+  opens_by x l g r n not_ready_lem s = elim s [ ]
+  opens_by x l g r n (malformed a03) s = elim s [ ]
+  opens_by x l g r n indication s = elim s [ ]
+  opens_by x l g r n ready s = elim s [ ]
 
 -- none of them erases
 unerased : (erase g b : Bool) (x : Op) (l : List Op) → Opens erase (x ∷ l) → (g && is_erasing x) || b ≡ b

@@ -198,10 +198,12 @@ module _ (o : Order) (v : Seen) (f : Facts) (p : v.profile ≡ f.profile) (e : v
   stage_by x l g r a b (unread q i) t (asked z n u) = absurd (false_true (sym q))
   stage_by x l g r a b (busy i) t (wiping z w) = wiping z w
   stage_by x l g r a b failed t (wiping z w) = wiping z w
+  stage_by x l g r a b (malformed k) t (wiping z w) = elim k [ ]
   stage_by x l g r a b (unread q i) t (wiping {l = k} z w) = wiped k z (w.flagged, w.recordable) o.immed
   stage_by x l g r a b (busy i) t (asking z n k) = absurd (false_true (sym i))
   stage_by x l g r a b not_ready_lem t (asking z n k) = hearing z n k
   stage_by x l g r a b failed t (asking z n k) = asking z n k
+  stage_by x l g r a b (malformed m) t (asking z n k) = elim m [ ]
   stage_by x l g r a b ready t (asking z n k) = hearing z n k
   stage_by x l g r a b (unread q i) t (asking z n k) = absurd (false_true (sym i))
   stage_by x l g r a b (busy i) t (hearing z n k) = hearing z n k

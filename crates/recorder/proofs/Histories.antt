@@ -413,7 +413,7 @@ module _ (b : List ℕ) (rs : List Reply) (o : Order) (e : read_order b ≡ pass
   -- the mode data hangs on the recipe in SAO alone
   page_same : o.method ≡ Tao → (k : Kind) → mode_data (under New o) k ≡ mode_data o k
   unfolding mode_data page_fault mode_bytes page valid_order
-  page_same t k = rw (t, q)
+  page_same t k = rw t
 
   pub but_function_1 : o.method ≡ Tao → ButFunction1 o (history b rs) (history c ys)
   but_function_1 t =

@@ -22,7 +22,7 @@ use Rattle.recorder.specs.declared.job.Progress.{Progress}
 use Rattle.recorder.specs.Answers.{Why, because}
 use Rattle.recorder.specs.Replies.{reading}
 use Rattle.recorder.specs.Script.{count_in, takes_immed, is_polled}
-use Rattle.recorder.specs.Exchanges.{Named, past, see, seen, name}
+use Rattle.recorder.specs.Exchanges.{Named, past, see, name}
 use Rattle.recorder.specs.Rules.{Judgement, onward, refused, disc_tests, erases, erasing_if, track_tests, polls_if, is_last, judge, move, none, found, refused_by}
 use Rattle.recorder.specs.Places.{after_in}
 use Rattle.recorder.specs.Job.{due_at, goes, finish, halt, advanced, turn_by, turn_of}
@@ -164,6 +164,7 @@ moved_ready : (o : Order) (x : Op) (v : Seen) (n : Named) → Sized o → Standi
 moved_ready o x v n z s c g r (busy i) = absurd (false_true (sym i))
 moved_ready o x v n z s c g r not_ready_lem = on_to x Sense refl refl refl (record { standing = standing_closing o.method o x v _ n n s (both (takes_immed x) _ c).0 refl; polled_at = c })
 moved_ready o x v n z s c g r failed = refuses o x Ready v n z s r _ refl
+moved_ready o x v n z s c g r (malformed a) = elim a [ ]
 moved_ready o x v n z s c g r ready = on_to x Sense refl refl refl (record { standing = standing_closing o.method o x v _ n n s (both (takes_immed x) _ c).0 refl; polled_at = c })
 moved_ready o x v n z s c g r (unread q i) = absurd (false_true (sym i))
 

@@ -22,7 +22,7 @@ use Rattle.recorder.specs.Answers.{Why, Ruling, done, stop}
 use Rattle.recorder.specs.Replies.{reading}
 use Rattle.recorder.specs.Script.{is_poll, polls, erasing, write, portion, writes_for, writes, writes_from, each_track, script}
 use Rattle.recorder.specs.Exchanges.{Exchange, see, seen}
-use Rattle.recorder.specs.Rules.{too_long, Judgement, onward, refused, polls_if, is_last, judge, judged, rest, move, left, none, found, refused_by, first_refused, ruled, exchanged, play}
+use Rattle.recorder.specs.Rules.{too_long, Judgement, onward, polls_if, is_last, judge, judged, rest, move, left, none, found, refused_by, first_refused, ruled, exchanged, play}
 use Rattle.recorder.specs.Recipes.{under, is_function1, other_ops, closing_track, of_function1, others, latest_of_function1, replies_in}
 use Rattle.recorder.proofs.Lists.{if_yes, if_no, clash, false_true, none_found}
 use Rattle.recorder.proofs.Turns.{made, Played, nothing, then, Reads, busy, not_ready_lem, failed, malformed, profile, status, information, indication, ready, unread, reads, Turn, repeats, refuses, works, polls_begin, erases_first, asks, polls_on, polls_end, turn}
@@ -82,6 +82,7 @@ see_alike m x r v w e = subst (λ (u : Seen). Alike (see m x r v) (see m x r u))
 past_function_1 : (m : Method) (x : Op) (g : Bool) (r : Reading) (v w : Seen) → is_function1 x ≡ true → Reads x g r → Alike v w → Alike (see m x r v) w
 past_function_1 m (CloseTrack t) g r v w q (busy i) e = e
 past_function_1 m (CloseTrack t) g r v w q failed e = e
+past_function_1 m (CloseTrack t) g r v w q (malformed a) e = elim a [ ]
 past_function_1 m (CloseTrack t) g r v w q (unread i n) e = e
 past_function_1 m GetConfiguration g r v w q i e = absurd (false_true q)
 past_function_1 m ReadDiscInformation g r v w q i e = absurd (false_true q)
@@ -99,6 +100,7 @@ past_ready : (m : Method) (g : Bool) (r : Reading) (v w : Seen) → Reads TestUn
 past_ready m g r v w (busy i) e = e
 past_ready m g r v w not_ready_lem e = e
 past_ready m g r v w failed e = e
+past_ready m g r v w (malformed a) e = elim a [ ]
 past_ready m g r v w ready e = e
 past_ready m g r v w (unread i n) e = e
 
@@ -281,6 +283,7 @@ module _ (o : Order) (es : List Exchange) (n : List Op) (y : Reply) (s : Along o
       on g r (busy b) f = absurd (false_true (sym b))
       on g r not_ready_lem f = hearing z (ap rest i) q refl
       on g r failed f = absurd (none_found _ (sym f))
+      on g r (malformed a) f = elim a [ ]
       on g r ready f = hearing z (ap rest i) q refl
       on g r (unread a b) f = absurd (false_true (sym b))
 
@@ -303,6 +306,7 @@ module _ (o : Order) (es : List Exchange) (n : List Op) (y : Reply) (s : Along o
       on g r (busy b) f = absurd (false_true (sym b))
       on g r not_ready_lem f = hearing_1 z i q
       on g r failed f = absurd (none_found _ (sym f))
+      on g r (malformed a) f = elim a [ ]
       on g r ready f = hearing_1 z i q
       on g r (unread a b) f = absurd (false_true (sym b))
 

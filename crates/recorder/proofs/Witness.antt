@@ -499,7 +499,7 @@ module _ (o : Order) (z : Sized o) (ok : Recordable o) (p : ℕ) (d : DiscInform
 
   still_known : (v w : Seen) (ds : Discs) → w.profile ≡ v.profile → w.status ≡ v.status → w.erased ≡ v.erased → Known v ds → Known w (ds ++ [])
   still_known v w ds a b c k =
-      record { profile_known = a ∙ k.profile-known; status_known = λ e. b ∙ k.status-known e; erased_known = c ∙ k.erased-known; discs_known = more_discs ds [] k.discs-known }
+      record { profile_known = a ∙ k.profile_known; status_known = λ e. b ∙ k.status_known e; erased_known = c ∙ k.erased_known; discs_known = more_discs ds [] k.discs_known }
 
   -- a reply that passes, and what is known and ahead then
   record Told (x : Op) (v : Seen) (ds : Discs) (r : Reading) : Type 0 where
@@ -539,10 +539,10 @@ module _ (o : Order) (z : Sized o) (ok : Recordable o) (p : ℕ) (d : DiscInform
         passes = refl;
         knows =
             record {
-              profile_known = k.profile-known;
-              status_known = k.status-known;
-              erased_known = ap (λ (b : Bool). b || v.erased) i ∙ k.erased-known;
-              discs_known = more_discs ds [] k.discs-known;
+              profile_known = k.profile_known;
+              status_known = k.status_known;
+              erased_known = ap (λ (b : Bool). b || v.erased) i ∙ k.erased_known;
+              discs_known = more_discs ds [] k.discs_known;
             };
         room = unread_room o.method x v n s r e;
       }
@@ -550,13 +550,13 @@ module _ (o : Order) (z : Sized o) (ok : Recordable o) (p : ℕ) (d : DiscInform
   told_51 : (v : Seen) (ds : Discs) → Known v ds → RoomBy o.method o v.at (ReadDiscInformation ∷ behind o ReadDiscInformation) → Told ReadDiscInformation v ds (Disc (discFor v.erased))
   told_51 v ds k r =
       record {
-        passes = passes_51 v k.profile-known v.erased refl ∙ ap (λ (b : Bool). onward (erasing_if b)) (ap (λ (b : Bool). not b && wipes) k.erased-known ∙ once wipes);
+        passes = passes_51 v k.profile_known v.erased refl ∙ ap (λ (b : Bool). onward (erasing_if b)) (ap (λ (b : Bool). not b && wipes) k.erased_known ∙ once wipes);
         knows =
             record {
-              profile_known = k.profile-known;
-              status_known = λ e. ap (λ (b : Bool). (discFor b).status) (k.erased-known ∙ ap (λ (b : Bool). b && used d.status) e);
-              erased_known = k.erased-known;
-              discs_known = more_discs ds _ k.discs-known;
+              profile_known = k.profile_known;
+              status_known = λ e. ap (λ (b : Bool). (discFor b).status) (k.erased_known ∙ ap (λ (b : Bool). b && used d.status) e);
+              erased_known = k.erased_known;
+              discs_known = more_discs ds _ k.discs_known;
             };
         room = same_room o.method v.at ReadDiscInformation _ refl r;
       }
@@ -570,15 +570,15 @@ module _ (o : Order) (z : Sized o) (ok : Recordable o) (p : ℕ) (d : DiscInform
       subst (Told GetConfiguration v ds) (sym (named_profile p (second v) (taken 0) (needed o 0)))
       (record {
         passes = refl;
-        knows = record { profile_known = refl; status_known = k.status-known; erased_known = k.erased-known; discs_known = more_discs ds [] k.discs-known };
+        knows = record { profile_known = refl; status_known = k.status_known; erased_known = k.erased_known; discs_known = more_discs ds [] k.discs_known };
         room = same_room o.method v.at GetConfiguration _ refl r;
       })
   told_next ReadDiscInformation v ds n s i k r = subst (Told ReadDiscInformation v ds) (sym (reads_51 v)) (told_51 v ds k r)
   told_next (ReadTrackInformation t) v ds n s i k r =
       subst (Told (ReadTrackInformation t) v ds) (sym (named_whole 9 (second v) (taken t.0) (needed o t.0)))
       (record {
-        passes = clear_passes (track_tests o t.0 v (informed (second v) t.0)) [] (clear_52 o.method refl t.0 v (here o.method refl t v n s r) k.profile-known k.status-known);
-        knows = record { profile_known = k.profile-known; status_known = k.status-known; erased_known = k.erased-known; discs_known = more_discs ds [] k.discs-known };
+        passes = clear_passes (track_tests o t.0 v (informed (second v) t.0)) [] (clear_52 o.method refl t.0 v (here o.method refl t v n s r) k.profile_known k.status_known);
+        knows = record { profile_known = k.profile_known; status_known = k.status_known; erased_known = k.erased_known; discs_known = more_discs ds [] k.discs_known };
         room = start_room o.method refl t v n s;
       })
   told_next (ModeSelect t) v ds n s i k r = told_unread (ModeSelect t) v ds n s i k r refl
@@ -981,9 +981,9 @@ module _ (o : Order) (z : Sized o) (ok : Recordable o) (p : ℕ) (d : DiscInform
           marked = i.marked;
           unrefused = i.packed.unrefused;
           enough = ruled_at o es [] i.packed.unrefused b.0;
-          of_profile = sym (profile_seen o.method es) ∙ b.1.profile-known;
-          of_disc = b.1.discs-known;
-          erases_so = sym (erased_seen o.method es) ∙ b.1.erased-known;
+          of_profile = sym (profile_seen o.method es) ∙ b.1.profile_known;
+          of_disc = b.1.discs_known;
+          erases_so = sym (erased_seen o.method es) ∙ b.1.erased_known;
           spaces =
               λ q before after x y e.
               let k : suc (0 + length before) ≡ suc (length before) = omega arith in subst (λ (m : ℕ). Follows (piece_of o m) x y) k (says_spaced q 0 before after x y (subst (Says 0) e (i.says q)));

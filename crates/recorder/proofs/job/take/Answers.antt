@@ -1,6 +1,5 @@
 use Rattle.recorder.proofs.Histories.{takes}
 use Rattle.recorder.proofs.job.Laws.{taken, taken_not}
-use borrow.Author.Rules.{rules}
 use Rattle.recorder.proofs.job.take.Goals as goal
 
 pub returns-in-Refused : goal.returns-in-Refused

@@ -12,7 +12,7 @@ use borrow.Author.Rules.{rules}
 use Rattle.recorder.proofs.job.turn.Goals as goal
 
 pub judge_reply-verdict-requires : goal.judge_reply-verdict-requires
-judge_reply-verdict-requires c = let p = c.requires in (p.unsigned, rw c.due_at-op.ensures p.for_track)
+judge_reply-verdict-requires c = let p = c.requires in record { unsigned_in = p.unsigned; for_track = rw c.due_at-op.ensures p.for_track }
 
 pub op_after-requires : goal.op_after-requires
 op_after-requires c =
@@ -22,20 +22,26 @@ op_after-requires c =
 pub see_reply-requires : goal.see_reply-requires
 see_reply-requires c =
     let judged : judgement_in c.judge_reply-verdict.result ≡ judge c.args.o c.args.s.seen (due_in c.args.s) c.args.reading = c.judge_reply-verdict.ensures ∙ ap (λ (x : Op). judge c.args.o c.args.s.seen x c.args.reading) c.due_at-op.ensures in
-    let sees : (xs : List Op) → judgement_in c.judge_reply-verdict.result ≡ onward xs → (see c.args.o.method c.due_at-op.result c.args.reading c.args.s.seen).at.0 < 2 ^ 32 = λ xs e. let t = start ⟦c⟧ in subst (λ (x : Op). (see t.args.o.method x t.args.reading t.args.s.seen).at.0 < 2 ^ 32) (sym c.due_at-op.ensures) (seen_fits t.args.o t.args.s t.args.reading xs (⟦at_fits⟧ t) t.pre.passes (sym judged ∙ e)) in
-    (sees [] (ap judgement_in c.in-Onward.is), c.requires.unsigned)
+    let at_fits : c.args.s.seen.at.0 < 2 ^ 32 = search rules in
+    let sees : (xs : List Op) → judgement_in c.judge_reply-verdict.result ≡ onward xs → (see c.args.o.method c.due_at-op.result c.args.reading c.args.s.seen).at.0 < 2 ^ 32 =
+        λ xs e. subst (λ (x : Op). (see c.args.o.method x c.args.reading c.args.s.seen).at.0 < 2 ^ 32) (sym c.due_at-op.ensures) (seen_fits c.args.o c.args.s c.args.reading xs at_fits c.requires.passes (sym judged ∙ e)) in
+    record { v_bound = sees [] (ap judgement_in c.in-Onward.is); unsigned_in = c.requires.unsigned }
 
 pub see_reply-requires-in-Poll : goal.see_reply-requires-in-Poll
 see_reply-requires-in-Poll c =
     let judged : judgement_in c.judge_reply-verdict.result ≡ judge c.args.o c.args.s.seen (due_in c.args.s) c.args.reading = c.judge_reply-verdict.ensures ∙ ap (λ (x : Op). judge c.args.o c.args.s.seen x c.args.reading) c.due_at-op.ensures in
-    let sees : (xs : List Op) → judgement_in c.judge_reply-verdict.result ≡ onward xs → (see c.args.o.method c.due_at-op.result c.args.reading c.args.s.seen).at.0 < 2 ^ 32 = λ xs e. let t = start ⟦c⟧ in subst (λ (x : Op). (see t.args.o.method x t.args.reading t.args.s.seen).at.0 < 2 ^ 32) (sym c.due_at-op.ensures) (seen_fits t.args.o t.args.s t.args.reading xs (⟦at_fits⟧ t) t.pre.passes (sym judged ∙ e)) in
-    (sees polls (ap judgement_in c.in-Poll.is), c.requires.unsigned)
+    let at_fits : c.args.s.seen.at.0 < 2 ^ 32 = search rules in
+    let sees : (xs : List Op) → judgement_in c.judge_reply-verdict.result ≡ onward xs → (see c.args.o.method c.due_at-op.result c.args.reading c.args.s.seen).at.0 < 2 ^ 32 =
+        λ xs e. subst (λ (x : Op). (see c.args.o.method x c.args.reading c.args.s.seen).at.0 < 2 ^ 32) (sym c.due_at-op.ensures) (seen_fits c.args.o c.args.s c.args.reading xs at_fits c.requires.passes (sym judged ∙ e)) in
+    record { v_bound = sees polls (ap judgement_in c.in-Poll.is); unsigned_in = c.requires.unsigned }
 
 pub see_reply-requires-in-Erase : goal.see_reply-requires-in-Erase
 see_reply-requires-in-Erase c =
     let judged : judgement_in c.judge_reply-verdict.result ≡ judge c.args.o c.args.s.seen (due_in c.args.s) c.args.reading = c.judge_reply-verdict.ensures ∙ ap (λ (x : Op). judge c.args.o c.args.s.seen x c.args.reading) c.due_at-op.ensures in
-    let sees : (xs : List Op) → judgement_in c.judge_reply-verdict.result ≡ onward xs → (see c.args.o.method c.due_at-op.result c.args.reading c.args.s.seen).at.0 < 2 ^ 32 = λ xs e. let t = start ⟦c⟧ in subst (λ (x : Op). (see t.args.o.method x t.args.reading t.args.s.seen).at.0 < 2 ^ 32) (sym c.due_at-op.ensures) (seen_fits t.args.o t.args.s t.args.reading xs (⟦at_fits⟧ t) t.pre.passes (sym judged ∙ e)) in
-    (sees erasing (ap judgement_in c.in-Erase.is), c.requires.unsigned)
+    let at_fits : c.args.s.seen.at.0 < 2 ^ 32 = search rules in
+    let sees : (xs : List Op) → judgement_in c.judge_reply-verdict.result ≡ onward xs → (see c.args.o.method c.due_at-op.result c.args.reading c.args.s.seen).at.0 < 2 ^ 32 =
+        λ xs e. subst (λ (x : Op). (see c.args.o.method x c.args.reading c.args.s.seen).at.0 < 2 ^ 32) (sym c.due_at-op.ensures) (seen_fits c.args.o c.args.s c.args.reading xs at_fits c.requires.passes (sym judged ∙ e)) in
+    record { v_bound = sees erasing (ap judgement_in c.in-Erase.is); unsigned_in = c.requires.unsigned }
 
 pub returns-in-Again : goal.returns-in-Again
 returns-in-Again c =
@@ -45,8 +51,7 @@ returns-in-Again c =
 pub returns-in-Onward : goal.returns-in-Onward
 returns-in-Onward c =
     let judged : judgement_in c.judge_reply-verdict.result ≡ judge c.args.o c.args.s.seen (due_in c.args.s) c.args.reading = c.judge_reply-verdict.ensures ∙ ap (λ (x : Op). judge c.args.o c.args.s.seen x c.args.reading) c.due_at-op.ensures in
-    let t = start ⟦c⟧ in
-    turned t.args.o t.args.s t.args.reading (sym judged ∙ ap judgement_in c.in-Onward.is) c.due_at-op.ensures c.see_reply.ensures t.pre.length_is t.pre.next_is c.op_after.ensures c.onward_by.ensures
+    turned c.args.o c.args.s c.args.reading (sym judged ∙ ap judgement_in c.in-Onward.is) c.due_at-op.ensures c.see_reply.ensures c.requires.length_is c.requires.next_is c.op_after.ensures c.onward_by.ensures
 
 pub returns-in-Poll : goal.returns-in-Poll
 returns-in-Poll c =

@@ -1,5 +1,4 @@
 use borrow.Author.Tests.{not-true, not-false}
-use borrow.Author.Rules.{rules}
 use Rattle.recorder.proofs.rules.judge_disc.Goals as goal
 
 pub returns-then-not-o : goal.returns-then-not-o

@@ -8,7 +8,6 @@ use Rattle.recorder.specs.declared.replies.TrackInformation.{TrackInformation}
 use Rattle.recorder.specs.declared.exchanges.Seen.{Seen}
 use Rattle.recorder.specs.Rules.{tested, opening_tests, track_tests}
 use borrow.Author.Tests.{eq-eqb, ne_eqb}
-use borrow.Author.Rules.{rules}
 use Rattle.recorder.proofs.rules.judge_track.Goals as goal
 
 -- the first track, where the disc is not to be erased
@@ -32,7 +31,7 @@ returns c =
       c.other_profile-profile.ensures,
       c.unsuitable_status-status.ensures,
       c.audio_in_tao-audio.ensures,
-      ⟦mixed_or_kept_case.ensures⟧,
+      c.mixed_or_kept-order.ensures,
       c.all_long-short.ensures,
       c.it_fits-full.ensures,
       c.needed_from.ensures,
