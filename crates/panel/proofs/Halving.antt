@@ -2,7 +2,7 @@
 -- is the number again, and it is below one where the number is below the power. Assumes nothing.
 use Rattle.std.proofs.Common.{◌≡◌, ℕ, ◌+◌, ◌-◌, ◌*◌, ◌^◌, ◌<◌, ◌≤◌, true, false, pos, sym, refl, ap, ◌∙◌, subst, lt_of_lt_of_le, le_of_lt, mul_assoc, mul_comm, lt_of_mul-lt-mul_right, mul-lt-mul_of_pos_right, mul-pos, one-mul, mul-one, arith, le→leb, pow_pos, pow_mono, pow-add, shl_lt, lt-ltb}
 use mathlib.Core.Bool.{false≢true}
-use lib.Ieee.{Float, fin, binary64, low, up, down, round, of_int, to_unsigned, in_float, div, mul, lt}
+use lib.Ieee.{Float, fin, nan, inf, binary64, low, up, down, round, of_int, to_unsigned, in_float, div, mul, lt}
 use lib.Ieee.Digits.{back as low-back}
 use lib.Ieee.Fits.{down_pos}
 use lib.Ieee.Exact.{HasValue, round_exact}
@@ -20,6 +20,8 @@ whole_value n h = round_whole binary64 false n (le_of_lt h)
 
 div_power : (k n : ℕ) (x : Float) → HasValue x false n 1 → div binary64 x (power k) ≡ round binary64 false n (2 ^ k)
 unfolding div
+div_power k n nan v = elim v [ ]
+div_power k n (inf s) v = elim v [ ]
 div_power k n (fin true m e) v = absurd (false≢true (sym v.0))
 div_power k n (fin false m e) v =
     round_same binary64 false (m * up e * 1) (1 * 2 ^ k * down e) n (2 ^ k) (mul-pos (mul-pos (omega arith) (pow_pos k)) (down_pos e)) (pow_pos k)
@@ -27,6 +29,8 @@ div_power k n (fin false m e) v =
 
 mul_power : (k n : ℕ) (x : Float) → HasValue x false n (2 ^ k) → mul binary64 x (power k) ≡ round binary64 false n 1
 unfolding mul
+mul_power k n nan v = elim v [ ]
+mul_power k n (inf s) v = elim v [ ]
 mul_power k n (fin true m e) v = absurd (false≢true (sym v.0))
 mul_power k n (fin false m e) v =
     round_same binary64 false (m * up e * (1 * 2 ^ k)) (down e * 1) n 1 (mul-pos (down_pos e) (omega arith)) (omega arith)
@@ -45,6 +49,8 @@ power_exact k n hk hn =
 
 lt_one : (k n : ℕ) (x : Float) → HasValue x false n (2 ^ k) → n < 2 ^ k → lt x (fin false 1 (pos 0)) ≡ true
 unfolding lt
+lt_one k n nan v h = elim v [ ]
+lt_one k n (inf s) v h = elim v [ ]
 lt_one k n (fin true m e) v h = absurd (false≢true (sym v.0))
 lt_one k n (fin false m e) v h =
     lt-ltb (m * up e * 1) (1 * 1 * down e)
