@@ -19,8 +19,12 @@ ghost use Rattle.packs.specs.Requests.{most_room, most_size, request_of, is_serv
 use cdtext::check::check_of;
 use cdtext::packs::{make_packs, read_packs};
 use cdtext::refusals::{Made, Read, Refusal, number};
-use libc::{STDIN_FILENO, STDOUT_FILENO};
 use mmc::bytes::number16;
+
+// The descriptors of the standard streams.
+const STDIN_FILENO: i32 = 0;
+
+const STDOUT_FILENO: i32 = 1;
 
 // What stands before the lent buffer in an answer.
 #[derive(Clone, Copy)]
