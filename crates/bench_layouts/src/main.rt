@@ -15,8 +15,12 @@ use crate::makers::made_line;
 use crate::readers::read_line;
 use crate::request::{MOST_BYTES, operation};
 use ascii::add;
-use libc::{STDIN_FILENO, STDOUT_FILENO};
 use mmc::bytes::number16;
+
+// The descriptors of the standard streams.
+const STDIN_FILENO: i32 = 0;
+
+const STDOUT_FILENO: i32 = 1;
 
 // Writes the answer to a request into the line, without its line feed.
 fn answer_line(b: &[u8], line: &mut [u8]) -> usize {
