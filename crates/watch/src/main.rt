@@ -11,8 +11,15 @@ ghost use Rattle.watch.specs.Bench.{ExampleStages};
 ghost use Rattle.watch.specs.Watch.{drawn_over, reads_on, complaint, stage_in, written_in, Finishes};
 
 use crate::stage::{Watch, begin, go_on, show};
-use libc::{STDERR_FILENO, STDIN_FILENO, STDOUT_FILENO};
 use recorder::job::idle;
+use std::io::IsTerminal;
+
+// The descriptors of the standard streams.
+const STDIN_FILENO: i32 = 0;
+
+const STDOUT_FILENO: i32 = 1;
+
+const STDERR_FILENO: i32 = 2;
 
 // Where the program stands once its line is written, and whether the output took all of it.
 #[derive(Clone, Copy)]
@@ -129,8 +136,8 @@ fn show_job(out: bool, terminal: bool, text: &mut [u8]) -> bool
     last.out
 }
 
-fn main() {
-    let terminal = libc::isatty(STDOUT_FILENO) == 1;
+fn main(rt: HostRuntime) {
+    let terminal = rt.stdout().is_terminal();
     let mut text = [0u8; 128];
     let before = show(idle(), &mut text);
     let shown = flush(terminal, false, before, &text);
