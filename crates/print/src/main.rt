@@ -10,7 +10,15 @@ ghost use Rattle.print.specs.Run.{reads_on, complaint, stage_in, ReadsRest, Send
 ghost use Rattle.print.specs.Bench.{ExampleTexts};
 
 use crate::run::{Run, begin, go_on};
-use libc::{STDERR_FILENO, STDIN_FILENO, STDOUT_FILENO};
+use std::io::Read;
+use std::rt::Stdin;
+
+// The descriptors of the standard streams.
+const STDIN_FILENO: i32 = 0;
+
+const STDOUT_FILENO: i32 = 1;
+
+const STDERR_FILENO: i32 = 2;
 
 // Where the last block ends that the first n bytes reach into.
 fn whole_blocks(n: usize) -> usize
@@ -29,13 +37,12 @@ fn read_rest(n: usize, input: &mut [u8]) -> usize
     n + io::read_full(STDIN_FILENO, &mut input[n..end])
 }
 
-// Reads what the input has at hand, up to 128 blocks, and the rest of a block that it has a part of.
-fn read_blocks(input: &mut [u8]) -> usize
+// Reads what the input has at hand, up to 128 blocks, and the rest of a block that it has a part of. A read that fails brings nothing.
+fn read_blocks(mut stdin: Stdin, input: &mut [u8]) -> usize
     requires { length input.old ≡ 65536 }
     ensures { result ≤ 65536 }
 {
-    let got = libc::read(STDIN_FILENO, input);
-    let n = io::count(got, input);
+    let n = stdin.read(input).unwrap_or(0);
     read_rest(n, input)
 }
 
@@ -82,14 +89,14 @@ fn reads_on(s: Sent) -> bool
 
 // Reads on until the run ends, or the output can't be written. A proved loop has to end, so it counts its turns down from a number that
 // no run uses up. Its contract also keeps document 01's example texts, which hold of the definitions that recorder and run meet.
-fn finish(first: Sent, input: &mut [u8], text: &mut [u8]) -> Sent
+fn finish(stdin: Stdin, first: Sent, input: &mut [u8], text: &mut [u8]) -> Sent
     requires { (first.run.used ≡ 0) × (length input.old ≡ 65536) × (length text.old ≡ 8192) }
     ensures { (Finishes first result) × ExampleTexts }
 {
     let mut sent = first;
     let mut turns = u64::MAX;
     while turns > 0 && reads_on(sent) {
-        let n = read_blocks(input);
+        let n = read_blocks(stdin, input);
         let run = sent.run;
         let next = go_on(run, &input[0..n], text);
         sent = flush(next, text);
@@ -112,12 +119,13 @@ fn report(out: bool) {
     }
 }
 
-fn main() {
+fn main(rt: HostRuntime) {
+    let stdin = rt.stdin();
     let mut input = io::large_buffer();
     let mut text = [0u8; 8192];
-    let n = read_blocks(&mut input);
+    let n = read_blocks(stdin, &mut input);
     let first = begin(&input[0..n], &mut text);
     let sent = flush(first, &text);
-    let last = finish(sent, &mut input, &mut text);
+    let last = finish(stdin, sent, &mut input, &mut text);
     report(last.out);
 }
