@@ -1,0 +1,8 @@
+use mathlib.Core.Path.{sym, ◌∙◌}
+use borrow.Author.Rules.{rules}
+use Rattle.packs.proofs.Heads.{payload_next}
+use Rattle.packs.proofs.read_payload.Goals as goal
+
+pub receive-got-requires : goal.receive-got-requires
+receive-got-requires c =
+    c.requires.1 ∙ sym (payload_next c.args.head.now c.requires.0)
