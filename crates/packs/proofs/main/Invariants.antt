@@ -1,11 +1,7 @@
 use mathlib.Core.Path.{◌≡◌}
-use mathlib.Core.Logic.{⊎_elim}
 use Prim.Native.Nat.{◌+◌}
-use native.Mathlib.Omega.{arith}
 use lib.ListN.{length}
-use borrow.Author.Rules.{rules}
 use Rattle.packs.specs.Requests.{most_room, most_size}
-use Rattle.packs.proofs.Heads.{neither}
 use Rattle.packs.proofs.main.Given as goal
 
 -- The program ends: the measure is the number of turns that are left. From turn to turn the two spaces keep their lengths.

@@ -1,5 +1,4 @@
 use mathlib.Core.Path.{sym, ◌∙◌}
-use borrow.Author.Rules.{rules}
 use Rattle.packs.proofs.Heads.{payload_next}
 use Rattle.packs.proofs.read_payload.Goals as goal
 

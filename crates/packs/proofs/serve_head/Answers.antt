@@ -26,5 +26,5 @@ read_payload-requires c =
     (e, l ∙ omega (arith, ap (λ (r : Request). r.size) c.request_of-request.ensures), c.requires.2)
 
 pub returns : goal.returns
-returns c =
+returns c e =
     absurd (neither _ (is_so c.is_head.ensures c.if-not-is_head.false-raw) e)

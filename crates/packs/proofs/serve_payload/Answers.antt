@@ -1,5 +1,4 @@
 use lib.ListN.{take}
-use borrow.Author.Rules.{rules}
 use Rattle.packs.proofs.Heads.{neither, five, whole, unlike}
 use Rattle.packs.proofs.serve_payload.Goals as goal
 
@@ -16,5 +15,5 @@ answer-requires c =
     (whole c.args.head.now _ c.request_of-request.result c.requires.0 c.request_of-request.ensures c.if-payload-request.false, c.requires.2)
 
 pub returns : goal.returns
-returns c =
+returns c e =
     absurd (neither _ (whole c.args.head.now (take c.args.got c.args.space.now) c.request_of-request.result c.requires.0 c.request_of-request.ensures c.if-payload-request.false) e)

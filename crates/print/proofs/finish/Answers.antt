@@ -29,50 +29,29 @@ pub loop-turns-init : goal.loop-turns-init
 unfolding after_reads
 loop-turns-init c = (refl, refl, c.requires.0, ([], refl, refl))
 
-pub reads_on-requires : goal.reads_on-requires
-reads_on-requires c = tt
-
 pub go_on-next-requires : goal.go_on-next-requires
 go_on-next-requires c =
     let on : reads_on c.loop-turns.sent ≡ true = sym c.reads_on.ensures ∙ c.if-reads_on.true in
     (second c.loop-turns.sent.out _ on, c.loop-turns.invariant.2, omega arith, omega arith)
 
-pub overflow_sub-turns : goal.overflow_sub-turns
-overflow_sub-turns c = omega (arith, c.loop-turns-test)
-
-pub loop-turns-smaller : goal.loop-turns-smaller
-loop-turns-smaller c = omega (arith, c.loop-turns-test)
-
 pub loop-turns-preserved : goal.loop-turns-preserved
 loop-turns-preserved c =
     let on : reads_on c.loop-turns.sent ≡ true = sym c.reads_on.ensures ∙ c.if-reads_on.true in
     let r = c.loop-turns.invariant.3 in (
-      c.read_blocks-n.auto.0 ∙ c.loop-turns.invariant.0,
-      c.go_on-next.auto.1.1.0 ∙ c.loop-turns.invariant.1,
+      c.read_blocks-n.auto.input ∙ c.loop-turns.invariant.0,
+      c.go_on-next.auto.text ∙ c.loop-turns.invariant.1,
       c.flush-sent.ensures.used,
       (
-        record { bytes = take (c.read_blocks-n.result - 0) c.read_blocks-n.new.0; out = c.flush-sent.result.out } ∷ r.0,
+        record { bytes = take (c.read_blocks-n.result - 0) c.read_blocks-n.new.input; out = c.flush-sent.result.out } ∷ r.0,
         one_more c.args.first c.loop-turns.sent c.go_on-next.result c.flush-sent.result r.0 _ _ r.1 on c.go_on-next.ensures.reaches.stage c.flush-sent.ensures,
         omega arith,
       ),
     )
 
-pub shape_of-input-else-reads_on : goal.shape_of-input-else-reads_on
-shape_of-input-else-reads_on c = c.loop-turns.invariant.0
-
-pub shape_of-text-else-reads_on : goal.shape_of-text-else-reads_on
-shape_of-text-else-reads_on c = c.loop-turns.invariant.1
-
 pub returns-else-reads_on : goal.returns-else-reads_on
 returns-else-reads_on c =
     let r = c.loop-turns.invariant.3 in
     (record { reads = r.0; sent = r.1; ended = λ h. sym c.reads_on.ensures ∙ c.if-reads_on.false }, example_texts)
-
-pub shape_of-input-after-loop-turns : goal.shape_of-input-after-loop-turns
-shape_of-input-after-loop-turns c = c.loop-turns.invariant.0
-
-pub shape_of-text-after-loop-turns : goal.shape_of-text-after-loop-turns
-shape_of-text-after-loop-turns c = c.loop-turns.invariant.1
 
 pub returns-after-loop-turns : goal.returns-after-loop-turns
 returns-after-loop-turns c =

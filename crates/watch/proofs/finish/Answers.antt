@@ -20,44 +20,26 @@ loop-turns-init c = (refl, refl, ([], refl, refl))
 
 pub flush-sent-requires : goal.flush-sent-requires
 flush-sent-requires c =
-    omega (arith, c.go_on-next.ensures.room, c.go_on-next.auto.1.1.0, c.loop-turns.invariant.1, c.requires.1)
-
-pub overflow_sub-turns : goal.overflow_sub-turns
-overflow_sub-turns c = omega (arith, c.loop-turns-test)
-
-pub loop-turns-smaller : goal.loop-turns-smaller
-loop-turns-smaller c = omega (arith, c.loop-turns-test)
+    omega (arith, c.go_on-next.ensures.room, c.go_on-next.auto.text, c.loop-turns.invariant.1, c.requires.1)
 
 pub loop-turns-preserved : goal.loop-turns-preserved
 loop-turns-preserved c =
     let on : reads_on (written_in c.loop-turns.sent c.loop-turns.text) ≡ true = sym c.reads_on.ensures ∙ c.if-reads_on.true in
     let a = c.args in
     let r = c.loop-turns.invariant.2 in (
-      c.read_full-n.auto.1.0 ∙ c.loop-turns.invariant.0,
-      c.go_on-next.auto.1.1.0 ∙ c.loop-turns.invariant.1,
+      c.read_full-n.auto.buf ∙ c.loop-turns.invariant.0,
+      c.go_on-next.auto.text ∙ c.loop-turns.invariant.1,
       (
-        record { bytes = take (c.read_full-n.result - 0) c.read_full-n.new.1.0; out = c.flush-sent.result.out } ∷ r.0,
+        record { bytes = take (c.read_full-n.result - 0) c.read_full-n.new.buf; out = c.flush-sent.result.out } ∷ r.0,
         again (written_in a.first a.text.now) (written_in c.loop-turns.sent c.loop-turns.text) _ r.0 r.1 on c.go_on-next.ensures c.flush-sent.ensures,
         omega (arith, r.2, c.loop-turns-test),
       ),
     )
 
-pub shape_of-block-else-reads_on : goal.shape_of-block-else-reads_on
-shape_of-block-else-reads_on c = c.loop-turns.invariant.0
-
-pub shape_of-text-else-reads_on : goal.shape_of-text-else-reads_on
-shape_of-text-else-reads_on c = c.loop-turns.invariant.1
-
 pub returns-else-reads_on : goal.returns-else-reads_on
 returns-else-reads_on c =
     let r = c.loop-turns.invariant.2 in
     (record { reads = r.0; written = r.1; ended = λ h. sym c.reads_on.ensures ∙ c.if-reads_on.false }, example_stages)
-
-pub shape_of-block-after-loop-turns : goal.shape_of-block-after-loop-turns
-shape_of-block-after-loop-turns c = c.loop-turns.invariant.0
-
-pub shape_of-text-after-loop-turns : goal.shape_of-text-after-loop-turns
-shape_of-text-after-loop-turns c = c.loop-turns.invariant.1
 
 pub returns-after-loop-turns : goal.returns-after-loop-turns
 returns-after-loop-turns c =

@@ -1,13 +1,9 @@
-use mathlib.Core.Path.{◌≡◌, refl, sym, ◌∙◌}
-use mathlib.Core.Bool.{true}
-use mathlib.Core.List.{List, [], ◌∷◌}
-use Prim.Native.Nat.{ℕ, ◌+◌, ◌-◌}
-use native.Mathlib.Omega.{arith}
-use lib.ListN.{length, take}
-use Rattle.watch.specs.Watch.{Read, Written, reads_on, after_reads, written_in}
+use mathlib.Core.Path.{◌≡◌}
+use mathlib.Core.List.{List}
+use Prim.Native.Nat.{ℕ, ◌+◌}
+use lib.ListN.{length}
+use Rattle.watch.specs.Watch.{Read, Written, after_reads, written_in}
 use Rattle.watch.specs.declared.Sent.{Sent}
-use Rattle.watch.proofs.Bench.{example_stages}
-use Rattle.watch.proofs.stage.Laws.{again}
 use Rattle.watch.proofs.finish.Given as goal
 
 -- the reads so far, and the turns that are left

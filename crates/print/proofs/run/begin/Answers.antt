@@ -1,4 +1,3 @@
-use borrow.Author.Rules.{rules}
 use mathlib.Core.Path.{◌≡◌, ◌∙◌}
 use native.Mathlib.Omega.{arith}
 use lib.ListN.{length}
@@ -9,7 +8,7 @@ pub returns : goal.returns
 returns c =
     let f = c.feed in
     let a = c.args in
-    let k : length c.add_line-line.new.1.1.1.1.0 ≡ length a.text.now = c.add_line-line.auto.1.1.1.1.0 in
+    let k : length c.add_line-line.new.text ≡ length a.text.now = c.add_line-line.auto.text in
     begins a.input.now (record {
       stage = f.ensures.stage ∙ begun a.input.now c.block_end-end.result _ c.block_end-end.ensures c.take-step.ensures.step (stage_of c.take-step.result.state c.add_line-line.ensures.waiting c.add_line-line.ensures.text);
       room = omega (arith, f.ensures.room);

@@ -1,9 +1,8 @@
-use mathlib.Core.Path.{◌≡◌, refl, sym, ◌∙◌}
-use Prim.Native.Nat.{◌+◌, ◌-◌, ◌≤◌}
+use mathlib.Core.Path.{refl, sym, ◌∙◌}
 use native.Mathlib.Omega.{arith}
-use lib.ListN.{length, drop}
+use lib.ListN.{length}
 use borrow.Author.Tests.{not-true, not-false}
-use Rattle.print.specs.Run.{stage_in, room_for, fed, input_blocks}
+use Rattle.print.specs.Run.{stage_in}
 use Rattle.print.proofs.run.Laws.{Ends, block_ends, fed_ended, fed_step, fed_all}
 use Rattle.print.proofs.run.feed.Goals as goal
 
@@ -41,7 +40,7 @@ loop-at-preserved c =
     let s = c.args.input.now in
     let e = ends in (
       omega arith,
-      c.next_block-current.auto.1.1.0 ∙ c.loop-at.invariant.1,
+      c.next_block-current.auto.text ∙ c.loop-at.invariant.1,
       omega (arith, c.next_block-current.ensures.room),
       fed_step (stage_in c.loop-at.current c.loop-at.text) _ s c.loop-at.at c.block_end-end.result (omega arith) c.block_end-end.ensures (not-false _ c.if-not-current.false) c.next_block-current.ensures.stage ∙ c.loop-at.invariant.3,
     )

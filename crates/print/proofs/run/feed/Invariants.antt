@@ -1,10 +1,7 @@
-use mathlib.Core.Path.{◌≡◌, refl, sym, ◌∙◌}
+use mathlib.Core.Path.{◌≡◌}
 use Prim.Native.Nat.{◌+◌, ◌-◌, ◌≤◌}
-use native.Mathlib.Omega.{arith}
 use lib.ListN.{length, drop}
-use borrow.Author.Tests.{not-true, not-false}
 use Rattle.print.specs.Run.{stage_in, room_for, fed, input_blocks}
-use Rattle.print.proofs.run.Laws.{Ends, block_ends, fed_ended, fed_step, fed_all}
 use Rattle.print.proofs.run.feed.Given as goal
 
 abbrev pub invariant-loop-at : goal.invariant-loop-at
