@@ -17,10 +17,10 @@ loop-i-preserved c =
     let i = c.loop-i.i in
     let h : i < length s = omega arith in
     let e : c.if-s-i-ne0.zero && all_zero (drop (i + 1) s) ≡ c.loop-i.zero && all_zero (drop i s) =
-        elim c.if-s-i-ne0.branch [
-          then-s-i-ne0 w ↦ ap (λ (z : Bool). z && all_zero (drop (i + 1) s)) w.zero-is ∙ zero_off s i c.loop-i.zero h w.if-s-i-ne0.true
-        | else-s-i-ne0 w ↦ ap (λ (z : Bool). z && all_zero (drop (i + 1) s)) w.zero-is ∙ zero_on s i c.loop-i.zero h w.if-s-i-ne0.false
-        ] in
+    elim c.if-s-i-ne0.branch [
+      | then-s-i-ne0 w ↦ ap (λ (z : Bool). z && all_zero (drop (i + 1) s)) w.zero-is ∙ zero_off s i c.loop-i.zero h w.if-s-i-ne0.true
+      | else-s-i-ne0 w ↦ ap (λ (z : Bool). z && all_zero (drop (i + 1) s)) w.zero-is ∙ zero_on s i c.loop-i.zero h w.if-s-i-ne0.false
+    ] in
     (omega arith, e ∙ c.loop-i.invariant.1)
 
 pub returns : goal.returns

@@ -24,7 +24,7 @@ see_reply-requires c =
     let judged : judgement_in c.judge_reply-verdict.result ≡ judge c.args.o c.args.s.seen (due_in c.args.s) c.args.reading = c.judge_reply-verdict.ensures ∙ ap (λ (x : Op). judge c.args.o c.args.s.seen x c.args.reading) c.due_at-op.ensures in
     let at_fits : c.args.s.seen.at.0 < 2 ^ 32 = search rules in
     let sees : (xs : List Op) → judgement_in c.judge_reply-verdict.result ≡ onward xs → (see c.args.o.method c.due_at-op.result c.args.reading c.args.s.seen).at.0 < 2 ^ 32 =
-        λ xs e. subst (λ (x : Op). (see c.args.o.method x c.args.reading c.args.s.seen).at.0 < 2 ^ 32) (sym c.due_at-op.ensures) (seen_fits c.args.o c.args.s c.args.reading xs at_fits c.requires.passes (sym judged ∙ e)) in
+    λ xs e. subst (λ (x : Op). (see c.args.o.method x c.args.reading c.args.s.seen).at.0 < 2 ^ 32) (sym c.due_at-op.ensures) (seen_fits c.args.o c.args.s c.args.reading xs at_fits c.requires.passes (sym judged ∙ e)) in
     record { v_bound = sees [] (ap judgement_in c.in-Onward.is); unsigned_in = c.requires.unsigned }
 
 pub see_reply-requires-in-Poll : goal.see_reply-requires-in-Poll
@@ -32,7 +32,7 @@ see_reply-requires-in-Poll c =
     let judged : judgement_in c.judge_reply-verdict.result ≡ judge c.args.o c.args.s.seen (due_in c.args.s) c.args.reading = c.judge_reply-verdict.ensures ∙ ap (λ (x : Op). judge c.args.o c.args.s.seen x c.args.reading) c.due_at-op.ensures in
     let at_fits : c.args.s.seen.at.0 < 2 ^ 32 = search rules in
     let sees : (xs : List Op) → judgement_in c.judge_reply-verdict.result ≡ onward xs → (see c.args.o.method c.due_at-op.result c.args.reading c.args.s.seen).at.0 < 2 ^ 32 =
-        λ xs e. subst (λ (x : Op). (see c.args.o.method x c.args.reading c.args.s.seen).at.0 < 2 ^ 32) (sym c.due_at-op.ensures) (seen_fits c.args.o c.args.s c.args.reading xs at_fits c.requires.passes (sym judged ∙ e)) in
+    λ xs e. subst (λ (x : Op). (see c.args.o.method x c.args.reading c.args.s.seen).at.0 < 2 ^ 32) (sym c.due_at-op.ensures) (seen_fits c.args.o c.args.s c.args.reading xs at_fits c.requires.passes (sym judged ∙ e)) in
     record { v_bound = sees polls (ap judgement_in c.in-Poll.is); unsigned_in = c.requires.unsigned }
 
 pub see_reply-requires-in-Erase : goal.see_reply-requires-in-Erase
@@ -40,7 +40,7 @@ see_reply-requires-in-Erase c =
     let judged : judgement_in c.judge_reply-verdict.result ≡ judge c.args.o c.args.s.seen (due_in c.args.s) c.args.reading = c.judge_reply-verdict.ensures ∙ ap (λ (x : Op). judge c.args.o c.args.s.seen x c.args.reading) c.due_at-op.ensures in
     let at_fits : c.args.s.seen.at.0 < 2 ^ 32 = search rules in
     let sees : (xs : List Op) → judgement_in c.judge_reply-verdict.result ≡ onward xs → (see c.args.o.method c.due_at-op.result c.args.reading c.args.s.seen).at.0 < 2 ^ 32 =
-        λ xs e. subst (λ (x : Op). (see c.args.o.method x c.args.reading c.args.s.seen).at.0 < 2 ^ 32) (sym c.due_at-op.ensures) (seen_fits c.args.o c.args.s c.args.reading xs at_fits c.requires.passes (sym judged ∙ e)) in
+    λ xs e. subst (λ (x : Op). (see c.args.o.method x c.args.reading c.args.s.seen).at.0 < 2 ^ 32) (sym c.due_at-op.ensures) (seen_fits c.args.o c.args.s c.args.reading xs at_fits c.requires.passes (sym judged ∙ e)) in
     record { v_bound = sees erasing (ap judgement_in c.in-Erase.is); unsigned_in = c.requires.unsigned }
 
 pub returns-in-Again : goal.returns-in-Again
