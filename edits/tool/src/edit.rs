@@ -1,9 +1,13 @@
-//! An edit file: replacements in the files of a crate that the prover must refuse, in the form of `rt must-fail`; and which laws refuse
-//! it, where it is one that the code's equations let pass.
+//! An edit file of a crate's must-fail/: replacements in its files that the prover must refuse, in the form of `rt ci`; and which laws
+//! refuse it, where it is one that the code's equations let pass.
 
-use crate::changes::{changes, Changes, Texts};
+use crate::source::proof_of;
+use std::collections::BTreeMap;
 use std::fs;
 use std::path::Path;
+
+/// Files of a crate, by their path in it, with what they are to hold.
+pub type Texts = BTreeMap<String, String>;
 
 /// `law: RECORD.FIELD`
 #[derive(Clone, Debug, PartialEq)]
@@ -19,18 +23,17 @@ pub struct Edit {
     pub laws: Vec<Law>,
     /// `fails: FILE [DECLARATION ..]`: where alone a proof may fail by itself
     pub fails: Vec<(String, Vec<String>)>,
-    pub changes: Changes,
+    pub texts: Texts,
 }
 
 /// The edit in a file's text, applied to the crate in `folder`. Any line that the form doesn't have is an error.
 pub fn parse(of: &str, label: &str, text: &str, folder: &Path) -> Result<Edit, String> {
     let mut file = String::new();
-    let mut after = String::new();
     let mut old: Option<String> = None;
     let mut laws = Vec::new();
     let mut fails = Vec::new();
     let mut texts = Texts::new();
-    let mut pairs = 0;
+    let mut changed = false;
     for line in text.lines() {
         if line.is_empty() || line.starts_with('#') {
             continue;
@@ -39,20 +42,12 @@ pub fn parse(of: &str, label: &str, text: &str, folder: &Path) -> Result<Edit, S
             let (record, field) = name.trim().split_once('.').ok_or(format!("'{line}' names no RECORD.FIELD"))?;
             laws.push(Law { record: record.to_string(), field: field.to_string() });
         } else if let Some(place) = line.strip_prefix("fails: ") {
-            let mut words = place.split_whitespace().map(str::to_string);
-            let file = words.next().ok_or("a 'fails:' line names no file")?;
-            if !folder.join(&file).is_file() {
-                return Err(format!("a 'fails:' line names {file}, which is not there"));
-            }
-            fails.push((file, words.collect()));
+            fails.push(place_in(place, folder)?);
         } else if let Some(name) = line.strip_prefix("file: ") {
             file = name.to_string();
             if !(file.starts_with("src/") || file.starts_with("specs/")) || file.contains("..") {
                 return Err(format!("{file} is no file of src/ or specs/"));
             }
-            after.clear();
-        } else if let Some(place) = line.strip_prefix("after: ") {
-            after = place.to_string();
         } else if let Some(rest) = line.strip_prefix("old: ") {
             old = Some(rest.to_string());
         } else if let Some(rest) = line.strip_prefix("new:") {
@@ -62,42 +57,47 @@ pub fn parse(of: &str, label: &str, text: &str, folder: &Path) -> Result<Edit, S
                 Some(text) => text.clone(),
                 None => fs::read_to_string(folder.join(&file)).map_err(|e| format!("{file}: {e}"))?,
             };
-            texts.insert(file.clone(), replaced(&now, &after, &was, new).map_err(|e| format!("{file}: {e}"))?);
-            after.clear();
-            pairs += 1;
+            if now.matches(&was).count() != 1 {
+                return Err(format!("{file}: '{was}' is there {} times", now.matches(&was).count()));
+            }
+            changed |= was != new;
+            texts.insert(file.clone(), now.replace(&was, new));
         } else {
             return Err(format!("'{line}' is no line of an edit"));
         }
     }
-    if pairs == 0 || old.is_some() {
-        return Err("an 'old:' line and a 'new:' line are wanted".to_string());
+    if !changed || old.is_some() {
+        return Err("an 'old:' line and a 'new:' line are wanted that differ".to_string());
     }
     if laws.is_empty() != fails.is_empty() {
         return Err("'law:' goes with 'fails:'".to_string());
     }
-    Ok(Edit { of: of.to_string(), label: label.to_string(), laws, fails, changes: changes(folder, &texts) })
+    Ok(Edit { of: of.to_string(), label: label.to_string(), laws, fails, texts })
 }
 
-/// Puts `new` for `old`, which stands once in the text; behind `after`, which stands once, for the first one there.
-fn replaced(text: &str, after: &str, old: &str, new: &str) -> Result<String, String> {
-    let once = |what: &str| match text.matches(what).count() {
-        1 => Ok(text.find(what).unwrap_or_default()),
-        n => Err(format!("'{what}' is there {n} times")),
-    };
-    let at = if after.is_empty() {
-        once(old)?
-    } else {
-        let from = once(after)? + after.len();
-        from + text[from..].find(old).ok_or(format!("'{old}' is not there behind '{after}'"))?
-    };
-    Ok(format!("{}{new}{}", &text[..at], &text[at + old.len()..]))
+/// `FILE [DECLARATION ..]`. A function's own proof, which may be in no file, is named by its Answers.antt alone.
+fn place_in(place: &str, folder: &Path) -> Result<(String, Vec<String>), String> {
+    let mut words = place.split_whitespace().map(str::to_string);
+    let file = words.next().ok_or("a 'fails:' line names no file")?;
+    let names: Vec<String> = words.collect();
+    if proof_of(&file).is_some() {
+        return match names.first() {
+            Some(name) => Err(format!("a 'fails:' line names {name} of a function's own proof, which counts as one")),
+            None => Ok((file, names)),
+        };
+    }
+    if !file.starts_with("proofs/") || !folder.join(&file).is_file() {
+        return Err(format!("a 'fails:' line names {file}, which is not there"));
+    }
+    Ok((file, names))
 }
 
-/// All edits in `edits/CRATE/*.edit`, by name; and what is wrong with those that can't be applied.
+/// All edits in `crates/CRATE/must-fail/*.edit`, by name; and what is wrong with those that can't be applied.
 pub fn all(root: &Path, crates: &[String]) -> (Vec<Edit>, Vec<String>) {
     let (mut edits, mut faults) = (Vec::new(), Vec::new());
     for of in crates {
-        let Ok(entries) = fs::read_dir(root.join("edits").join(of)) else {
+        let folder = root.join("crates").join(of);
+        let Ok(entries) = fs::read_dir(folder.join("must-fail")) else {
             continue;
         };
         let mut paths: Vec<_> = entries.flatten().map(|e| e.path()).collect();
@@ -109,7 +109,7 @@ pub fn all(root: &Path, crates: &[String]) -> (Vec<Edit>, Vec<String>) {
                 continue;
             }
             let text = fs::read_to_string(&path).unwrap_or_default();
-            match parse(of, &label, &text, &root.join("crates").join(of)) {
+            match parse(of, &label, &text, &folder) {
                 Ok(edit) => edits.push(edit),
                 Err(why) => faults.push(format!("{of}/{label}: BAD EDIT: {why}")),
             }
@@ -134,7 +134,9 @@ mod tests {
     fn folder(name: &str) -> Folder {
         let at = Folder(std::env::temp_dir().join(format!("edits-test-{}-{name}", std::process::id())));
         fs::create_dir_all(at.0.join("src")).unwrap();
+        fs::create_dir_all(at.0.join("proofs")).unwrap();
         fs::write(at.0.join("src/lib.rt"), "a = 1;\nb = 1;\n").unwrap();
+        fs::write(at.0.join("proofs/Laws.antt"), "").unwrap();
         at
     }
 
@@ -143,17 +145,20 @@ mod tests {
         let at = folder("pairs");
         let text = "# why\nfile: src/lib.rt\nold: a = 1;\nnew: a = 2;\nold: b = 1\nnew: b = 3\n";
         let edit = parse("c", "l", text, &at.0).unwrap();
-        assert_eq!(edit.changes[&("src/lib.rt".to_string(), 0)], "a = 2;");
-        assert_eq!(edit.changes[&("src/lib.rt".to_string(), 1)], "b = 3;");
+        assert_eq!(edit.texts, Texts::from([("src/lib.rt".to_string(), "a = 2;\nb = 3;\n".to_string())]));
         assert!(edit.laws.is_empty());
     }
 
     #[test]
-    fn behind_a_place() {
-        let at = folder("behind");
-        let edit = parse("c", "l", "file: src/lib.rt\nafter: a = 1;\nold: = 1;\nnew: = 2;\n", &at.0).unwrap();
-        assert_eq!(edit.changes, Changes::from([(("src/lib.rt".to_string(), 1), "b = 2;".to_string())]));
-        assert!(parse("c", "l", "file: src/lib.rt\nafter: b\nold: a\nnew: c\n", &at.0).is_err());
+    fn laws_and_where_proofs_may_fail() {
+        let at = folder("laws");
+        let text = |fails: &str| format!("law: A.b\nfails: {fails}\nfile: src/lib.rt\nold: a = 1;\nnew: a = 2;\n");
+        let edit = parse("c", "l", &text("proofs/Laws.antt b c"), &at.0).unwrap();
+        assert_eq!(edit.laws, [Law { record: "A".into(), field: "b".into() }]);
+        assert_eq!(edit.fails, [("proofs/Laws.antt".into(), vec!["b".into(), "c".into()])]);
+        assert_eq!(parse("c", "l", &text("proofs/f/Answers.antt"), &at.0).unwrap().fails.len(), 1);
+        assert!(parse("c", "l", &text("proofs/f/Answers.antt returns"), &at.0).is_err());
+        assert!(parse("c", "l", &text("proofs/None.antt"), &at.0).is_err());
     }
 
     #[test]
@@ -163,11 +168,12 @@ mod tests {
             "",
             "file: src/lib.rt\nold: c\nnew: d\n",
             "file: src/lib.rt\nold: = 1;\nnew: = 2;\n",
+            "file: src/lib.rt\nold: a = 1;\nnew: a = 1;\n",
             "file: proofs/lib.antt\nold: a\nnew: b\n",
             "file: src/lib.rt\nold: a = 1;\n",
+            "file: src/lib.rt\nafter: a = 1;\nold: = 1;\nnew: = 2;\n",
             "file: src/lib.rt\nold: a = 1;\nnew: a = 2;\nlore: x\n",
             "law: A.b\nfile: src/lib.rt\nold: a = 1;\nnew: a = 2;\n",
-            "law: A.b\nfails: proofs/none.antt\nfile: src/lib.rt\nold: a = 1;\nnew: a = 2;\n",
         ] {
             assert!(parse("c", "l", text, &at.0).is_err(), "{text}");
         }

@@ -1,11 +1,17 @@
-//! What the prover said of an edited crate.
+//! What the prover said of a changed crate: of one that `rt check` read, all that fails; of one that `rt must-fail` tried, one line.
 
-/// What fails at a place in a file of the crate: a proof, by its declaration, or where it doesn't compile the code.
-#[derive(Clone, Debug, PartialEq)]
+use crate::edit::Texts;
+use crate::source::{proof_at, proof_of};
+
+/// What fails at a place in a file of the crate: a proof, by its declaration or by the function that it is of, or where the code
+/// doesn't compile.
+#[derive(Clone, Debug, Default, PartialEq)]
 pub struct Failure {
     pub file: String,
     pub at: usize,
     pub declaration: String,
+    /// the folder of the function's own proof that fails, if it is one
+    pub proof: Option<String>,
     pub line: String,
 }
 
@@ -19,42 +25,37 @@ pub enum Verdict {
     Survives,
     /// the code, or a definition in specs/, is not well formed
     NotBuilt(String),
-    /// the proof file no longer fits the code's shape, which says nothing of facts
+    /// a proof file no longer fits the code's shape, which says nothing of facts
     Shape(String),
-    /// the prover could not tell, or took too long
+    /// the prover met a limit of its own, which says little
+    Limit(String),
+    /// the prover could not tell
     Unclear(String),
 }
 
-/// The verdict on what `rt dev` said, with its exit status, of the crate in `folder`.
-pub fn verdict(status: i32, said: &str, folder: &str) -> Verdict {
+/// The verdict on what `rt check` said, with its exit status, of a crate that holds these texts.
+pub fn verdict(status: i32, said: &str, texts: &Texts) -> Verdict {
+    let proved = said.lines().any(|l| l.starts_with("logic=proved"));
     if status == 0 {
-        return match said.contains("\nlogic=proved") {
-            true => Verdict::Survives,
-            false => Verdict::Unclear(last(said)),
-        };
+        return if proved { Verdict::Survives } else { Verdict::Unclear(last(said)) };
     }
-    let failures = failures(said, folder);
-    if !said.contains("\nlogic=not-proved") {
-        return match failures.first() {
+    let roots: Vec<Failure> = said.lines().filter_map(|line| failure(line, texts)).collect();
+    if !said.lines().any(|l| l.starts_with("logic=not-proved")) {
+        return match roots.first() {
             Some(f) => Verdict::NotBuilt(f.line.clone()),
             None => Verdict::Unclear(last(said)),
         };
     }
-    match failures.is_empty() {
-        true => Verdict::Unclear(last(said)),
-        false => refused(failures, functions(said)),
-    }
-}
-
-/// The verdict by the proofs that fail by themselves.
-pub fn refused(roots: Vec<Failure>, functions: Vec<String>) -> Verdict {
-    if let Some(f) = roots.iter().find(|f| f.file.starts_with("specs/")) {
+    if let Some(f) = roots.iter().find(|f| f.file.starts_with("specs/") || f.line.contains(": error[")) {
         return Verdict::NotBuilt(f.line.clone());
     }
     if let Some(f) = roots.iter().find(|f| misfit(&f.line)) {
         return Verdict::Shape(f.line.clone());
     }
-    Verdict::Refused { roots, functions }
+    match roots.is_empty() {
+        true => Verdict::Unclear(last(said)),
+        false => Verdict::Refused { roots, functions: functions(said) },
+    }
 }
 
 fn last(said: &str) -> String {
@@ -62,90 +63,132 @@ fn last(said: &str) -> String {
 }
 
 /// What fails by itself: no proof that only cites one that failed.
-pub fn failures(said: &str, folder: &str) -> Vec<Failure> {
-    said.lines().filter_map(|line| failure(line, folder)).collect()
-}
-
-fn failure(line: &str, folder: &str) -> Option<Failure> {
+fn failure(line: &str, texts: &Texts) -> Option<Failure> {
     if let Some(rest) = line.strip_prefix("note: ") {
-        // a function without a proof file, for which the prover finds no proof by itself
+        // a goal of a function for which neither its proof file nor the prover has a proof
         let (place, fact) = rest.split_once(": ")?;
-        return fact.starts_with("it is not proved that").then(|| at(place, "", line, folder));
+        if !fact.starts_with("it is not proved that") {
+            return None;
+        }
+        let found = at(place, "", line);
+        let proof = texts.get(&found.file).and_then(|text| proof_at(&found.file, text, found.at.max(1) - 1));
+        return Some(Failure { proof, ..found });
     }
     if let Some((place, _)) = line.split_once(": error[") {
-        return Some(at(place, "", line, folder));
+        return Some(at(place, "", line));
     }
     let (place, message) = line.split_once(": error: ")?;
-    if message.contains(" was not admitted (") {
+    let cites = ["was not admitted (", "which was rejected, was not checked", "which were rejected, was not checked", ", were not checked"];
+    if cites.iter().any(|words| message.contains(words)) {
         return None;
     }
     let declaration = message.strip_prefix('`').and_then(|m| m.split_once("`:")).map_or("", |(name, _)| name);
-    Some(at(place, declaration, line, folder))
+    let found = at(place, declaration, line);
+    Some(Failure { proof: proof_of(&found.file).map(str::to_string), ..found })
 }
 
 /// FILE:LINE:COLUMN
-fn at(place: &str, declaration: &str, line: &str, folder: &str) -> Failure {
-    let path = place.strip_prefix(folder).unwrap_or(place).trim_start_matches('/');
-    let mut parts = path.split(':');
+fn at(place: &str, declaration: &str, line: &str) -> Failure {
+    let mut parts = place.trim_start_matches("./").split(':');
     let file = parts.next().unwrap_or_default().to_string();
     let at = parts.next().and_then(|n| n.parse().ok()).unwrap_or(0);
-    Failure { file, at, declaration: declaration.to_string(), line: line.replace(folder, "").chars().take(300).collect() }
+    Failure { file, at, declaration: declaration.to_string(), proof: None, line: line.chars().take(300).collect() }
 }
 
-/// The proof file names a place of the code that is no longer there, or hands over a proof for another one.
+/// A proof file names a place of the code that is no longer there.
 fn misfit(line: &str) -> bool {
-    let signs = ["has no `Need-", "has no field", ": expected type `tie.Need-", "this pattern needs a function (or path) type to bind"];
+    let signs = ["has no field", "has no `", "is not in scope", "this pattern needs a function (or path) type to bind"];
     signs.iter().any(|sign| line.contains(sign))
 }
 
+/// The functions whose own proofs fail: `fn c::f: not proved` and `fn c::f: no proof: ..`, but for those that only call one.
 fn functions(said: &str) -> Vec<String> {
     let lines = said.lines().filter_map(|l| l.strip_prefix("fn ")?.split_once(": "));
-    lines.filter(|(_, what)| *what == "not proved" || what.starts_with("no proof")).map(|(name, _)| name.to_string()).collect()
+    let own = |what: &str| (what.starts_with("not proved") || what.starts_with("no proof")) && !what.contains(" it calls `");
+    lines.filter(|(_, what)| own(what)).map(|(name, _)| name.to_string()).collect()
+}
+
+/// The crate and label of an edit that `rt must-fail` tried, and its verdict, where a line says one.
+pub fn tried(line: &str) -> Option<(String, String, Verdict)> {
+    let (file, said) = line.strip_prefix("rt: must-fail ")?.split_once(": ")?;
+    let (of, label) = file.strip_suffix(".edit")?.split_once('/')?;
+    let text = line.to_string();
+    let verdict = if said.contains("(only because a proof file names") {
+        Verdict::Shape(text)
+    } else if said.contains("(only by a limit of the prover") {
+        Verdict::Limit(text)
+    } else if said.starts_with("refused, as it must be") {
+        Verdict::Refused { roots: vec![], functions: vec![] }
+    } else if said.starts_with("NOT REFUSED") {
+        Verdict::Survives
+    } else if said.starts_with("BAD EDIT") {
+        Verdict::NotBuilt(text)
+    } else {
+        Verdict::Unclear(text)
+    };
+    Some((of.to_string(), label.to_string(), verdict))
 }
 
 #[cfg(test)]
 mod tests {
     use super::*;
 
-    const FACT: &str = "rt: mmc proved\n/r/crates/c/proofs/a/Proof.antt:80:5: error: `returns`: the two types differ\n\
-/r/crates/c/proofs/a/Proof.antt:98:5: error: `a-spec`: `returns` was not admitted (it has holes), so this cannot be checked\n\
-fn c::a: not proved\nfn c::b: not proved; it calls `c::a`, which is not proved\nfn c::d: proved\nlogic=not-proved\n";
+    const FACT: &str = "checked c::a, 1 of 3\n./proofs/a/Answers.antt:80:5: error: `returns`: the two types differ\n\
+./proofs/a/Answers.antt:98:5: error: `a_spec`: `returns` was not admitted (it has holes), so this cannot be checked\n\
+./proofs/Laws.antt:11:5: error: 1 declaration that depends on `same`, which was rejected, was not checked: laws_of\n\
+fn c::a: not proved\nfn c::b: no proof: it calls `c::a`, which is not proved\nfn c::d: proved\nlogic=not-proved\nrt: rt lemma WORD..\n";
 
     #[test]
     fn a_fact_fails() {
-        let Verdict::Refused { roots, functions } = verdict(1, FACT, "/r/crates/c") else { panic!() };
+        let Verdict::Refused { roots, functions } = verdict(1, FACT, &Texts::new()) else { panic!() };
         assert_eq!(roots.len(), 1);
-        assert_eq!((roots[0].file.as_str(), roots[0].declaration.as_str()), ("proofs/a/Proof.antt", "returns"));
+        assert_eq!((roots[0].file.as_str(), roots[0].declaration.as_str()), ("proofs/a/Answers.antt", "returns"));
+        assert_eq!(roots[0].proof.as_deref(), Some("proofs/a"));
         assert_eq!(functions, ["c::a"]);
     }
 
     #[test]
-    fn a_function_without_a_proof_file() {
-        let said = "x\nnote: /r/crates/c/src/p.rt:88:1: it is not proved that what the function ensures holds\n\
-fn c::p: no proof: expected `p-spec`\nlogic=not-proved\n";
-        let Verdict::Refused { roots, functions } = verdict(1, said, "/r/crates/c") else { panic!() };
-        assert_eq!(roots[0].file, "src/p.rt");
-        assert_eq!(functions, ["c::p"]);
+    fn a_function_without_a_proof() {
+        let said = "x\nnote: src/p.rt:2:1: it is not proved that what the function ensures holds (`returns`)\n\
+note: a goal may be false even if its line does not say so\n\
+fn c::p::f: no proof: expected answers in ./proofs/p/f/Answers.antt; `search` did not prove `returns`\nlogic=not-proved\n";
+        let texts = Texts::from([("src/p.rt".to_string(), "// f\nfn f() -> u8\n{\n    1\n}\n".to_string())]);
+        let Verdict::Refused { roots, functions } = verdict(1, said, &texts) else { panic!() };
+        assert_eq!((roots.len(), roots[0].proof.as_deref()), (1, Some("proofs/p/f")));
+        assert_eq!(functions, ["c::p::f"]);
     }
 
     #[test]
     fn what_shows_nothing() {
-        let misfits = [
-            "`Inv-loop`: this pattern needs a function (or path) type to bind",
-            "module `T` has no `Need-r-7` that can be named",
-            "`c .x` has no field `y`",
-            "`a-spec`: expected type `tie.Need-add-r`, but",
-        ];
+        let misfits = ["module `T` has no `returns_7` that can be named", "`c.x` has no field `y`", "`z` is not in scope"];
         for misfit in misfits {
-            let said = format!("{FACT}/r/crates/c/proofs/a/Proof.antt:1:1: error: {misfit}\n");
-            assert!(matches!(verdict(1, &said, "/r/crates/c"), Verdict::Shape(_)), "{misfit}");
+            let said = format!("./proofs/a/Answers.antt:1:1: error: {misfit}\n{FACT}");
+            assert!(matches!(verdict(1, &said, &Texts::new()), Verdict::Shape(_)), "{misfit}");
         }
-        let said = format!("{FACT}/r/crates/c/specs/A.antt:1:1: error: `f`: expected type `ℕ`\n");
-        assert!(matches!(verdict(1, &said, "/r/crates/c"), Verdict::NotBuilt(_)));
-        let said = "x\n/r/crates/c/src/p.rt:1:13: error[unknown-name]: cannot find value\n";
-        assert!(matches!(verdict(1, said, "/r/crates/c"), Verdict::NotBuilt(_)));
-        assert!(matches!(verdict(124, "x\n", "/r/crates/c"), Verdict::Unclear(_)));
-        assert!(matches!(verdict(0, "x\nlogic=proved functions=1\n", "/r/crates/c"), Verdict::Survives));
-        assert!(matches!(verdict(0, "x\n", "/r/crates/c"), Verdict::Unclear(_)));
+        let said = format!("./specs/A.antt:1:1: error: `f`: expected type `ℕ`\n{FACT}");
+        assert!(matches!(verdict(1, &said, &Texts::new()), Verdict::NotBuilt(_)));
+        let said = "x\nsrc/p.rt:1:13: error[unknown-name]: cannot find value\n";
+        assert!(matches!(verdict(1, said, &Texts::new()), Verdict::NotBuilt(_)));
+        assert!(matches!(verdict(124, "x\n", &Texts::new()), Verdict::Unclear(_)));
+        assert!(matches!(verdict(0, "x\nlogic=proved functions=1\n", &Texts::new()), Verdict::Survives));
+        assert!(matches!(verdict(0, "x\n", &Texts::new()), Verdict::Unclear(_)));
+    }
+
+    #[test]
+    fn a_line_for_each_edit() {
+        let of =
+            |said: &str| tried(&format!("rt: must-fail c/m_1.edit: {said}")).map(|(of, label, verdict)| (format!("{of}/{label}"), verdict));
+        assert!(
+            matches!(of("refused, as it must be: note: src/a.rt:1:1: it is not proved"), Some((n, Verdict::Refused { .. })) if n == "c/m_1")
+        );
+        assert!(matches!(of("refused, as it must be (only because a proof file names what went): x"), Some((_, Verdict::Shape(_)))));
+        assert!(matches!(
+            of("refused, as it must be (only by a limit of the prover, which gave no verdict): x"),
+            Some((_, Verdict::Limit(_)))
+        ));
+        assert!(matches!(of("NOT REFUSED: the crate is still proved with this edit"), Some((_, Verdict::Survives))));
+        assert!(matches!(of("BAD EDIT: it did not reach the prover"), Some((_, Verdict::NotBuilt(_)))));
+        assert!(matches!(of("NOT TRIED: its check was killed"), Some((_, Verdict::Unclear(_)))));
+        assert_eq!(tried("rt: c: trying its must-fail edits (3)"), None);
     }
 }

@@ -1,9 +1,9 @@
 //! The laws: every field of every record that a contract cites stands in `edits/laws`, with an edit that only it refuses, or with the
 //! reason why there is none. So a law that is deleted, or added without an edit, fails the run.
 
-use crate::changes::name;
 use crate::edit::Edit;
 use crate::judge::Failure;
+use crate::source::{clauses, name, proof_of};
 use std::collections::{BTreeMap, BTreeSet};
 use std::fs;
 use std::path::{Path, PathBuf};
@@ -48,7 +48,7 @@ pub fn read(root: &Path, crates: &BTreeMap<String, Vec<String>>) -> Laws {
     }
     for name in crates.keys() {
         for path in files(&root.join("crates").join(name).join("src"), "rt") {
-            for (function, clause) in clauses_in(&fs::read_to_string(path).unwrap_or_default()) {
+            for (function, clause) in promises_in(&fs::read_to_string(path).unwrap_or_default()) {
                 for (of, record) in laws.named(name, &clause) {
                     if of == *name {
                         laws.promises.entry((of, record)).or_default().insert(function.clone());
@@ -100,16 +100,20 @@ fn records_in(text: &str) -> Vec<(String, Vec<(String, String)>)> {
     found
 }
 
-/// `abbrev pub NAME : .. → Type 0`, and below it `NAME .. = ..`: a name for a statement, with what it stands for.
+/// `abbrev pub NAME : .. → Type 0`, and below it `NAME .. = ..` on one line or several: a name for a statement, with what it stands for.
 fn names_in(text: &str) -> Vec<(String, String)> {
     let mut found: Vec<(String, String)> = Vec::new();
+    let mut inside = false;
     for line in text.lines() {
         let head = line.strip_prefix("abbrev pub ").or(line.strip_prefix("unfoldable pub "));
         if let (Some(head), true) = (head, line.ends_with("Type 0")) {
             found.push((head.split_whitespace().next().unwrap_or_default().to_string(), String::new()));
+            inside = false;
         } else if let Some((name, means)) = found.last_mut() {
-            if let (true, Some((_, right))) = (line.starts_with(name.as_str()), line.split_once(" = ")) {
-                means.push_str(right);
+            let own = line.strip_prefix(name.as_str()).is_some_and(|rest| rest.starts_with(' '));
+            inside = own || inside && line.starts_with(' ');
+            if inside {
+                means.push_str(if own { line.split_once(" =").map_or("", |(_, right)| right) } else { line });
                 means.push(' ');
             }
         }
@@ -117,19 +121,11 @@ fn names_in(text: &str) -> Vec<(String, String)> {
     found
 }
 
-/// What each function ensures.
-fn clauses_in(text: &str) -> Vec<(String, String)> {
-    let mut function = String::new();
-    let mut found = Vec::new();
-    for line in text.lines() {
-        let bare = line.trim_start();
-        if let Some(name) = name(line) {
-            function = name.to_string();
-        } else if bare.starts_with("ensures") {
-            found.push((function.clone(), bare.to_string()));
-        }
-    }
-    found
+/// What each function ensures, by its name.
+fn promises_in(text: &str) -> Vec<(String, String)> {
+    let lines: Vec<&str> = text.split('\n').collect();
+    let of = |first: usize| lines[..first].iter().rev().find_map(|l| name(l)).unwrap_or_default().to_string();
+    clauses(text).into_iter().filter(|c| c.ensures).map(|c| (of(c.first), c.fact)).collect()
 }
 
 fn words(text: &str) -> BTreeSet<String> {
@@ -184,7 +180,7 @@ impl Laws {
             let wanted = line.reason.is_empty();
             let has = edits.iter().any(|e| e.of == *of && e.laws.iter().any(|l| l.record == *record && l.field == line.field));
             if wanted && !has {
-                faults.push(format!("{named}: no edit in edits/{of} is for this law"));
+                faults.push(format!("{named}: no edit in crates/{of}/must-fail is for this law"));
             }
             known.entry(line.record.clone()).or_default().insert(line.field.clone(), wanted);
         }
@@ -212,8 +208,10 @@ impl Laws {
         let Some(first) = edit.fails.first() else {
             return Ok(());
         };
-        let is =
-            |(file, names): &(String, Vec<String>), f: &Failure| *file == f.file && (names.is_empty() || names.contains(&f.declaration));
+        let is = |(file, names): &(String, Vec<String>), f: &Failure| match proof_of(file) {
+            Some(folder) => f.proof.as_deref() == Some(folder),
+            None => *file == f.file && (names.is_empty() || names.contains(&f.declaration)),
+        };
         if let Some(other) = roots.iter().find(|f| !edit.fails.iter().any(|place| is(place, f))) {
             return Err(format!("another proof fails: {}", other.line));
         }
@@ -252,10 +250,9 @@ fn listed(list: &str) -> (Vec<Listed>, Vec<String>) {
 #[cfg(test)]
 mod tests {
     use super::*;
-    use crate::changes::Changes;
-    use crate::edit::Law;
+    use crate::edit::{Law, Texts};
 
-    const SPECS: &str = "abbrev pub Promised : Order → Type 0\nPromised o = Makes o\n\npub record Makes (o : Order) : Type 0 where\n  pub filled : Fills o\n  -- why\n  pub back :\n    (b : A) → b\n\nf = 1\n  pub no : law\n";
+    const SPECS: &str = "abbrev pub Promised : Order → Type 0\nPromised o =\n    Makes o\n\npub record Makes (o : Order) : Type 0 where\n  pub filled : Fills o\n  -- why\n  pub back :\n    (b : A) → b\n\nf = 1\n  pub no : law\n";
 
     fn laws() -> Laws {
         let mut laws = Laws::default();
@@ -264,7 +261,7 @@ mod tests {
             laws.records.insert(("c".into(), record), fields);
         }
         laws.names.extend(names_in(SPECS).into_iter().map(|(short, means)| (("c".to_string(), short), means)));
-        for (function, clause) in clauses_in("pub fn make(o: Order) -> Made\n    ensures { λ r. ⌜ Promised o r ⌝ }\n") {
+        for (function, clause) in promises_in("pub fn make(o: Order) -> Made\n    ensures back { Promised o result }\n{\n}\n") {
             for name in laws.named("c", &clause) {
                 laws.promises.entry(name).or_default().insert(function.clone());
             }
@@ -273,13 +270,17 @@ mod tests {
     }
 
     fn edit() -> Edit {
-        let fails = vec![("proofs/Laws.antt".into(), vec!["back".into()]), ("proofs/Bench.antt".into(), vec![])];
+        let fails = vec![
+            ("proofs/Laws.antt".into(), vec!["back".into()]),
+            ("proofs/Bench.antt".into(), vec![]),
+            ("proofs/make/Answers.antt".into(), vec![]),
+        ];
         Edit {
             of: "c".into(),
             label: "l".into(),
             laws: vec![Law { record: "Makes".into(), field: "back".into() }],
             fails,
-            changes: Changes::new(),
+            texts: Texts::new(),
         }
     }
 
@@ -303,8 +304,12 @@ mod tests {
 
     #[test]
     fn the_law_alone() {
-        let failure =
-            |(file, declaration): (&str, &str)| Failure { file: file.into(), at: 1, declaration: declaration.into(), line: String::new() };
+        let failure = |(file, declaration): (&str, &str)| Failure {
+            file: file.into(),
+            declaration: declaration.into(),
+            proof: file.strip_prefix("src/").map(|f| format!("proofs/{f}")),
+            ..Failure::default()
+        };
         let alone = |roots: &[(&str, &str)], functions: &[&str]| {
             let roots: Vec<Failure> = roots.iter().copied().map(failure).collect();
             laws().alone(&edit(), &roots, &functions.iter().map(|f| f.to_string()).collect::<Vec<_>>()).is_ok()
@@ -314,7 +319,8 @@ mod tests {
         assert!(alone(&[law, ("proofs/Bench.antt", "sheet")], &["c::make"]));
         assert!(!alone(&[("proofs/Bench.antt", "sheet")], &["c::make"]));
         assert!(!alone(&[law, ("proofs/Laws.antt", "front")], &["c::make"]));
-        assert!(!alone(&[law, ("proofs/make/Proof.antt", "returns")], &["c::make"]));
+        assert!(alone(&[law, ("src/make", "")], &["c::make"]));
+        assert!(!alone(&[law, ("src/take", "")], &["c::make"]));
         assert!(!alone(&[law], &["c::inner"]));
         assert!(!alone(&[law], &[]));
     }

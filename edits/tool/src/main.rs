@@ -1,45 +1,40 @@
-//! Tries wrong programs against the prover: the edits in edits/CRATE, and mutants that the tool makes. See edits/README.md.
+//! What the gate asks of the wrong programs beside `rt ci`, which tries each edit of crates/CRATE/must-fail: see edits/README.md.
 
 #![forbid(unsafe_code)]
 
-mod changes;
 mod edit;
 mod judge;
 mod laws;
 mod mutants;
 mod rooms;
+mod source;
 
-use changes::{body, Body, Changes};
 use edit::Edit;
 use judge::Verdict;
 use mutants::Mutant;
-use rooms::{tried, Rooms};
+use rooms::{checked, Rooms};
 use std::collections::{BTreeMap, VecDeque};
 use std::fs;
 use std::path::{Path, PathBuf};
 use std::process::ExitCode;
 use std::sync::atomic::{AtomicUsize, Ordering};
-use std::sync::Mutex;
 use std::time::Instant;
 
 /// The gate's sample of mutants: so many for each crate, from this seed.
 const SAMPLE: usize = 3;
 const SEED: u64 = 20261116;
 
-/// So many changes inside different functions are checked together.
-const TOGETHER: usize = 12;
-
-const USAGE: &str = "edits/try                       every edit, and a fixed sample of mutants of each crate: the gate's part
-edits/try edits [NAME..] [--roots]
-                                the edits alone, or those of crates or CRATE/LABEL; --roots prints each proof that fails by itself
+const USAGE: &str = "edits/try                       the laws, and a fixed sample of mutants of each crate: the gate's part
+edits/try laws                  only whether each edit fits, and each law of a contract is listed and has its edit
+edits/try fails [NAME..] [--roots]
+                                whether of each law's edit only the proofs that it names fail by themselves; or of those of crates or
+                                CRATE/LABEL; --roots prints each proof that fails by itself, also of an edit without a law
 edits/try mutants [CRATE..] [--count N] [--seed S] [--file PART] [--specs] [--list]
                                 N mutants of each crate, from the seed S, of the files whose name has PART; with --specs of the
-                                definitions; --list only prints them
-edits/try laws                  only whether each law of a contract is listed and has its edit
-edits/try warm FOLDER           checks the crates that need no other in a new folder; WARM=FOLDER edits/try .. goes on from there";
+                                definitions; --list only prints them";
 
 struct Wanted {
-    edits: bool,
+    fails: bool,
     mutants: bool,
     names: Vec<String>,
     count: usize,
@@ -52,8 +47,8 @@ struct Wanted {
 
 fn wanted(words: &[String]) -> Option<Wanted> {
     let mut w = Wanted {
-        edits: true,
-        mutants: true,
+        fails: false,
+        mutants: false,
         names: vec![],
         count: SAMPLE,
         seed: SEED,
@@ -64,10 +59,9 @@ fn wanted(words: &[String]) -> Option<Wanted> {
     };
     let mut words = words.iter();
     match words.next().map(String::as_str) {
-        None => {}
-        Some("edits") => w.mutants = false,
-        Some("mutants") => w.edits = false,
-        Some("laws") => (w.edits, w.mutants) = (false, false),
+        None | Some("mutants") => w.mutants = true,
+        Some("fails") => w.fails = true,
+        Some("laws") => {}
         Some(_) => return None,
     }
     while let Some(word) = words.next() {
@@ -89,7 +83,9 @@ fn wanted(words: &[String]) -> Option<Wanted> {
 fn crates_in(root: &Path) -> BTreeMap<String, Vec<String>> {
     let text = fs::read_to_string(root.join("crates.txt")).unwrap_or_default();
     let lines = text.lines().filter_map(|l| l.split('#').next().unwrap_or_default().split_once(':'));
-    lines.map(|(name, deps)| (name.trim().to_string(), deps.split_whitespace().map(str::to_string).collect())).collect()
+    // a word behind the name says what kind of library it is
+    let name = |head: &str| head.split_whitespace().next().unwrap_or_default().to_string();
+    lines.map(|(head, deps)| (name(head), deps.split_whitespace().map(str::to_string).collect())).collect()
 }
 
 #[derive(Default)]
@@ -113,13 +109,6 @@ impl Tally {
 fn main() -> ExitCode {
     let words: Vec<String> = std::env::args().skip(1).collect();
     let root = std::env::current_dir().expect("a folder to work in");
-    if let [word, folder] = &words[..] {
-        if word == "warm" {
-            let faults = Rooms::warm(&root, Path::new(folder), &crates_in(&root));
-            faults.iter().for_each(|fault| eprintln!("{fault}"));
-            return ExitCode::from(u8::from(!faults.is_empty()));
-        }
-    }
     let Some(wanted) = wanted(&words) else {
         eprintln!("{USAGE}");
         return ExitCode::from(2);
@@ -148,10 +137,13 @@ fn work(root: &Path, wanted: &Wanted, tally: &Tally) -> Result<(), String> {
     if wanted.names.is_empty() && !wanted.list {
         faults.iter().chain(&missing).for_each(|fault| tally.fail(fault));
         strays(root, &names).iter().for_each(|fault| tally.fail(fault));
-        println!("{count} laws have an edit of their own, of {} edits", edits.len());
+        equal.iter().filter_map(|e| e.fault(root)).for_each(|fault| tally.fail(&fault));
+        tally.pass(&format!("{count} laws have an edit of their own, of {} edits", edits.len()));
     }
-
-    let edits: Vec<Edit> = edits.into_iter().filter(|e| wanted.edits && named(&e.of, &e.label)).collect();
+    if wanted.fails {
+        let edits: Vec<Edit> = edits.into_iter().filter(|e| named(&e.of, &e.label) && (wanted.roots || !e.laws.is_empty())).collect();
+        return try_fails(root, &names, &edits, &laws, wanted.roots, tally);
+    }
     let mut mutants: BTreeMap<String, Vec<Mutant>> = BTreeMap::new();
     for of in names.iter().filter(|of| wanted.mutants && named(of, "") && !(wanted.names.is_empty() && unpromised(root, of))) {
         let drawn = mutants::drawn(root, of, &wanted.file, wanted.specs, wanted.seed);
@@ -166,26 +158,10 @@ fn work(root: &Path, wanted: &Wanted, tally: &Tally) -> Result<(), String> {
         mutants.values().for_each(|all| all.iter().take(wanted.count).for_each(|m| println!("{}", m.label())));
         return Ok(());
     }
-    let mut used: Vec<String> =
-        names.iter().filter(|of| mutants.contains_key(*of) || edits.iter().any(|e| e.of == **of)).cloned().collect();
-    if used.is_empty() {
+    if mutants.is_empty() {
         return Ok(());
     }
-    used.sort_by_key(|of| std::cmp::Reverse(proofs(root, of)));
-    let rooms = Rooms::new(root, &names, cores())?;
-    rooms.prove(&used)?;
-    if wanted.edits {
-        let began = Instant::now();
-        let groups = groups(root, &edits, if wanted.roots { 1 } else { TOGETHER });
-        rooms.each(&groups, |room, _, group| try_edits(root, room, group, &laws, wanted.roots, tally));
-        println!("{} edits tried ({:.0} s)", edits.len(), began.elapsed().as_secs_f64());
-    }
-    if wanted.mutants {
-        let began = Instant::now();
-        try_mutants(root, &rooms, mutants, wanted, tally);
-        println!("mutants tried ({:.0} s)", began.elapsed().as_secs_f64());
-    }
-    Ok(())
+    try_mutants(root, &names, mutants, wanted.count, tally)
 }
 
 fn cores() -> usize {
@@ -193,17 +169,13 @@ fn cores() -> usize {
     set.unwrap_or_else(|| std::thread::available_parallelism().map_or(1, |n| n.get())).max(1)
 }
 
-/// The bytes of a crate's proofs: the crate with the most is checked first, so that no core waits long for the last one.
-fn proofs(root: &Path, of: &str) -> u64 {
-    let files = laws::files(&root.join("crates").join(of).join("proofs"), "antt");
-    files.iter().filter_map(|f| f.metadata().ok()).map(|m| m.len()).sum()
-}
-
-/// Folders of edits that belong to no crate.
+/// Folders of edits that rt does not read: what lies in edits/ beside the tool, and in the folder of a crate that crates.txt does not list.
 fn strays(root: &Path, names: &[String]) -> Vec<String> {
-    let entries: Vec<PathBuf> = fs::read_dir(root.join("edits")).into_iter().flatten().flatten().map(|e| e.path()).collect();
-    let folders = entries.iter().filter(|p| p.is_dir()).map(|p| p.file_name().unwrap_or_default().to_string_lossy().to_string());
-    folders.filter(|f| f != "tool" && !names.contains(f)).map(|f| format!("edits/{f}: crates.txt lists no such crate")).collect()
+    let folders = |at: PathBuf| fs::read_dir(at).into_iter().flatten().flatten().map(|e| e.path()).filter(|p| p.is_dir());
+    let name = |p: &PathBuf| p.file_name().unwrap_or_default().to_string_lossy().to_string();
+    let own = folders(root.join("edits")).map(|p| format!("edits/{}", name(&p))).filter(|f| f != "edits/tool");
+    let of = folders(root.join("crates")).filter(|p| p.join("must-fail").is_dir() && !names.contains(&name(p)));
+    own.chain(of.map(|p| format!("crates/{}/must-fail", name(&p)))).map(|f| format!("{f}: rt reads no edits there")).collect()
 }
 
 /// A program that only runs the routines of a library on requests promises nothing of its own: mutants of it say nothing of a proof,
@@ -212,56 +184,31 @@ fn unpromised(root: &Path, of: &str) -> bool {
     !root.join("crates").join(of).join("specs").is_dir()
 }
 
-/// Whether a change of a crate can join others: it lies in a function's body, and none of theirs does.
-fn joins(root: &Path, of: &str, changes: &Changes, others: &mut Vec<Body>) -> bool {
-    let Some(body) = body(&root.join("crates").join(of), changes) else {
-        return false;
-    };
-    let new = !others.contains(&body);
-    if new {
-        others.push(body);
+/// The edits of laws, each in a room of its own: whether only the proofs fail by themselves that they name.
+fn try_fails(root: &Path, names: &[String], edits: &[Edit], laws: &laws::Laws, show: bool, tally: &Tally) -> Result<(), String> {
+    let used: Vec<String> = names.iter().filter(|of| edits.iter().any(|e| e.of == **of)).cloned().collect();
+    if used.is_empty() {
+        return Ok(());
     }
-    new
-}
-
-/// The edits, at most so many of the same crate together. One that is for a law, or not inside a function's body, stands alone.
-fn groups<'a>(root: &Path, edits: &'a [Edit], most: usize) -> Vec<Vec<&'a Edit>> {
-    let mut groups: Vec<(Vec<&Edit>, Vec<Body>)> = Vec::new();
-    for edit in edits {
-        let open = groups.iter_mut().filter(|(group, _)| group[0].of == edit.of && group.len() < most);
-        let joined = edit.laws.is_empty()
-            && open.filter(|(_, bodies)| !bodies.is_empty()).any(|(group, bodies)| {
-                let joins = joins(root, &edit.of, &edit.changes, bodies);
-                if joins {
-                    group.push(edit);
-                }
-                joins
-            });
-        if !joined {
-            let mut bodies = Vec::new();
-            if edit.laws.is_empty() {
-                joins(root, &edit.of, &edit.changes, &mut bodies);
-            }
-            groups.push((vec![edit], bodies));
-        }
-    }
-    groups.into_iter().map(|(group, _)| group).collect()
-}
-
-fn try_edits(root: &Path, room: &Path, group: &[&Edit], laws: &laws::Laws, show: bool, tally: &Tally) {
+    let rooms = Rooms::new(root, names, cores())?;
+    rooms.prove(&used)?;
     let began = Instant::now();
-    let changes: Vec<&Changes> = group.iter().map(|e| &e.changes).collect();
-    let verdicts = tried(root, room, &group[0].of, &changes);
-    let took = began.elapsed().as_secs_f64() / group.len() as f64;
-    for (edit, verdict) in group.iter().zip(verdicts) {
-        judge_edit(edit, verdict, laws, show, took, tally);
-    }
+    rooms.each(edits, |room, edit| {
+        let began = Instant::now();
+        let verdict = checked(root, room, &edit.of, &edit.texts);
+        judge_edit(edit, verdict, laws, show, began.elapsed().as_secs_f64(), tally);
+    });
+    println!("{} edits tried ({:.0} s)", edits.len(), began.elapsed().as_secs_f64());
+    Ok(())
 }
 
 fn judge_edit(edit: &Edit, verdict: Verdict, laws: &laws::Laws, show: bool, took: f64, tally: &Tally) {
     let name = format!("{}/{}", edit.of, edit.label);
     if let (true, Verdict::Refused { roots, functions }) = (show, &verdict) {
-        roots.iter().for_each(|f| println!("{name}: {} {}: {}", f.file, f.declaration, f.line));
+        roots.iter().for_each(|f| {
+            let place = f.proof.as_ref().map_or(format!("{} {}", f.file, f.declaration), |p| format!("{p}/Answers.antt"));
+            println!("{name}: fails: {place}: {}", f.line);
+        });
         functions.iter().for_each(|f| println!("{name}: fn {f} is not proved"));
     }
     match verdict {
@@ -275,52 +222,62 @@ fn judge_edit(edit: &Edit, verdict: Verdict, laws: &laws::Laws, show: bool, took
         Verdict::Survives => tally.fail(&format!("{name}: NOT REFUSED: the crate is still proved with this edit")),
         Verdict::NotBuilt(line) => tally.fail(&format!("{name}: it does not compile: {line}")),
         Verdict::Shape(line) => tally.fail(&format!("{name}: refused for its shape only, which shows nothing: {line}")),
-        Verdict::Unclear(line) => tally.fail(&format!("{name}: the prover could not tell: {line}")),
+        Verdict::Limit(line) | Verdict::Unclear(line) => tally.fail(&format!("{name}: the prover could not tell: {line}")),
     }
 }
 
-/// Mutants of each crate, until so many were refused for a fact or survived; those that don't compile or don't fit say nothing.
-fn try_mutants(root: &Path, rooms: &Rooms, mutants: BTreeMap<String, Vec<Mutant>>, wanted: &Wanted, tally: &Tally) {
-    let left: BTreeMap<String, _> = mutants.into_iter().map(|(of, all)| (of, (wanted.count, VecDeque::from(all)))).collect();
-    let silent: BTreeMap<String, AtomicUsize> = left.keys().map(|of| (of.clone(), AtomicUsize::new(0))).collect();
-    let left = Mutex::new(left);
-    let next = || {
-        let mut left = left.lock().unwrap();
-        let (places, all) = left.values_mut().find(|(places, all)| *places > 0 && !all.is_empty())?;
-        let group = drawn_together(root, all, TOGETHER.min(*places));
-        *places -= group.len();
-        Some(group)
-    };
-    rooms.until_none(next, |room, _, group| {
-        let began = Instant::now();
-        let changes: Vec<Changes> = group.iter().map(Mutant::changes).collect();
-        let verdicts = tried(root, room, &group[0].of, &changes.iter().collect::<Vec<_>>());
-        let took = began.elapsed().as_secs_f64() / group.len() as f64;
-        for (mutant, verdict) in group.iter().zip(verdicts) {
+/// So many mutants of each crate that were refused for a fact or survived. Those that don't compile, that don't fit the proofs, or that
+/// meet a limit of the prover say nothing, and the next ones of the crate are taken instead.
+fn try_mutants(root: &Path, names: &[String], mutants: BTreeMap<String, Vec<Mutant>>, count: usize, tally: &Tally) -> Result<(), String> {
+    let began = Instant::now();
+    let rooms = Rooms::new(root, names, 1)?;
+    // whatever may be tried is marked before the first try, since a change of the text makes rt try all again
+    let most = 8 * count;
+    rooms.mark(mutants.values().flat_map(|all| all.iter().take(most)))?;
+    let mut left: BTreeMap<&String, (usize, VecDeque<&Mutant>)> =
+        mutants.iter().map(|(of, all)| (of, (count, all.iter().take(most).collect()))).collect();
+    let mut silent: BTreeMap<&String, usize> = mutants.keys().map(|of| (of, 0)).collect();
+    loop {
+        let next: Vec<Mutant> =
+            left.values_mut().flat_map(|(wanted, all)| all.drain(..(*wanted).min(all.len())).cloned().collect::<Vec<_>>()).collect();
+        if next.is_empty() {
+            break;
+        }
+        for (mutant, verdict) in next.iter().zip(rooms.must_fail(&next)) {
             match verdict {
-                Verdict::Refused { .. } => tally.pass(&format!("mutant refused ({took:.1} s): {}", mutant.label())),
+                Verdict::NotBuilt(line) | Verdict::Shape(line) | Verdict::Limit(line) => {
+                    println!("says nothing: {}: {line}", mutant.label());
+                    *silent.get_mut(&mutant.of).expect("its crate") += 1;
+                    continue;
+                }
+                Verdict::Refused { .. } => tally.pass(&format!("mutant refused: {}", mutant.label())),
                 Verdict::Survives => tally.fail(&format!("mutant SURVIVES: {}", mutant.label())),
                 Verdict::Unclear(line) => tally.fail(&format!("mutant: the prover could not tell: {}: {line}", mutant.label())),
-                Verdict::NotBuilt(_) | Verdict::Shape(_) => {
-                    silent[&mutant.of].fetch_add(1, Ordering::Relaxed);
-                    left.lock().unwrap().get_mut(&mutant.of).expect("its crate").0 += 1;
-                }
             }
+            left.get_mut(&mutant.of).expect("its crate").0 -= 1;
         }
-    });
-    for (of, n) in silent {
-        println!("{of}: {} more did not compile, or were refused for their shape only", n.into_inner());
     }
+    for (of, (lacking, _)) in left.iter().filter(|(_, (lacking, all))| *lacking > 0 && all.is_empty()) {
+        println!("{of}: {lacking} fewer than wanted, as no more are there");
+    }
+    for (of, n) in silent {
+        println!("{of}: {n} more did not compile, or were refused for their shape only");
+    }
+    println!("mutants tried ({:.0} s)", began.elapsed().as_secs_f64());
+    Ok(())
 }
 
-/// The next mutant, and those right behind it that can be checked together with it, at most so many.
-fn drawn_together(root: &Path, all: &mut VecDeque<Mutant>, most: usize) -> Vec<Mutant> {
-    let first = all.pop_front().expect("a mutant");
-    let mut bodies = Vec::new();
-    let alone = !joins(root, &first.of, &first.changes(), &mut bodies);
-    let mut group = vec![first];
-    while !alone && group.len() < most && all.front().is_some_and(|m| joins(root, &m.of, &m.changes(), &mut bodies)) {
-        group.extend(all.pop_front());
+#[cfg(test)]
+mod tests {
+    use super::*;
+
+    #[test]
+    fn crates_of_a_list() {
+        let root = std::env::temp_dir().join(format!("edits-crates-{}", std::process::id()));
+        fs::create_dir_all(&root).unwrap();
+        fs::write(root.join("crates.txt"), "# all\nlow:\nmid staticlib: low std # why\n").unwrap();
+        let crates = crates_in(&root);
+        fs::remove_dir_all(&root).unwrap();
+        assert_eq!(crates, BTreeMap::from([("low".into(), vec![]), ("mid".into(), vec!["low".into(), "std".into()])]));
     }
-    group
 }

@@ -1,6 +1,6 @@
 //! Wrong programs made by the tool: one number, comparison, operator or truth value of the code changed.
 
-use crate::changes::{name, Changes};
+use crate::source::{clauses, name};
 use std::fs;
 use std::path::Path;
 
@@ -20,8 +20,23 @@ impl Mutant {
         format!("{} {}:{}: {}  =>  {}", self.of, self.file, self.line + 1, self.old.trim(), self.new.trim())
     }
 
-    pub fn changes(&self) -> Changes {
-        Changes::from([((self.file.clone(), self.line), self.new.clone())])
+    /// The line with a comment that makes it the only one of its file.
+    fn marked(&self, line: &str) -> String {
+        let comment = if self.file.ends_with(".antt") { "--" } else { "//" };
+        format!("{line} {comment} line {}.", self.line + 1)
+    }
+
+    /// The file's text with its line marked, and the edit of it that `rt must-fail` reads.
+    pub fn mark(&self, text: &str) -> String {
+        let mut lines: Vec<String> = text.split('\n').map(str::to_string).collect();
+        if lines[self.line] == self.old {
+            lines[self.line] = self.marked(&self.old);
+        }
+        lines.join("\n")
+    }
+
+    pub fn edit(&self) -> String {
+        format!("file: {}\nold: {}\nnew: {}\n", self.file, self.marked(&self.old), self.marked(&self.new))
     }
 }
 
@@ -82,30 +97,36 @@ fn numbers(line: &str) -> Vec<(usize, &str)> {
     found
 }
 
-/// Whether a line is code: no comment, no contract, no signature, no `use`; of a definition in specs/, no type and no field.
+/// The lines of a text that are code: no comment, no contract, no signature, no `use`; of a definition in specs/, no type and no field.
+fn code_in(text: &str, specs: bool) -> Vec<bool> {
+    let lines: Vec<&str> = text.split('\n').collect();
+    let mut code: Vec<bool> = lines.iter().map(|line| is_code(line, specs)).collect();
+    if specs {
+        return code;
+    }
+    for clause in clauses(text) {
+        code[clause.first..=clause.last].fill(false);
+    }
+    for first in (0..lines.len()).filter(|i| name(lines[*i]).is_some()) {
+        let open = (first..lines.len()).find(|i| lines[*i].trim() == "{" || lines[*i].ends_with(" {") && code_ends(lines[*i]));
+        code[first..=open.unwrap_or(first)].fill(false);
+    }
+    code
+}
+
+/// Whether a line that ends in an opening brace opens a body, and no clause.
+fn code_ends(line: &str) -> bool {
+    !["requires", "ensures"].iter().any(|word| line.trim_start().starts_with(word))
+}
+
 fn is_code(line: &str, specs: bool) -> bool {
     let bare = line.trim_start();
     if specs {
         let skipped = ["--", "use ", "pub mod", "mod ", "pub record", "pub data"];
         return !bare.is_empty() && !skipped.iter().any(|s| bare.starts_with(s)) && !line.contains(" : ") && !line.contains('≡');
     }
-    let skipped = [
-        "//",
-        "ghost ",
-        "use ",
-        "mod ",
-        "pub mod",
-        "requires",
-        "ensures",
-        "struct",
-        "pub struct",
-        "pub(crate) struct",
-        "enum",
-        "pub enum",
-        "impl",
-        "#[",
-    ];
-    !bare.is_empty() && !line.contains('⌜') && name(line).is_none() && !skipped.iter().any(|s| bare.starts_with(s))
+    let skipped = ["//", "ghost ", "use ", "mod ", "pub mod", "struct", "pub struct", "pub(crate) struct", "enum", "pub enum", "impl", "#"];
+    !bare.is_empty() && !skipped.iter().any(|s| bare.starts_with(s))
 }
 
 /// Whether a line begins an item: mutants are drawn over items by turns, so that no long table or function takes the whole sample.
@@ -138,12 +159,14 @@ fn by_item(root: &Path, of: &str, part: &str, specs: bool) -> Vec<Vec<Mutant>> {
         }
         items.push(Vec::new());
         let mut item = String::new();
-        for (at, line) in fs::read_to_string(path).unwrap_or_default().split('\n').enumerate() {
+        let text = fs::read_to_string(path).unwrap_or_default();
+        let code = code_in(&text, specs);
+        for (at, line) in text.split('\n').enumerate() {
             if begins_item(line, specs) {
                 items.push(Vec::new());
                 item = item_name(line);
             }
-            if is_code(line, specs) {
+            if code[at] {
                 let file = format!("{place}/{name}");
                 let mutant =
                     |new| Mutant { of: of.to_string(), file: file.clone(), item: item.clone(), line: at, old: line.to_string(), new };
@@ -176,6 +199,13 @@ pub struct Equal {
 }
 
 impl Equal {
+    /// What is wrong with it, where its old line is no longer there.
+    pub fn fault(&self, root: &Path) -> Option<String> {
+        let text = fs::read_to_string(root.join("crates").join(&self.of).join(&self.file)).unwrap_or_default();
+        let gone = !text.lines().any(|l| l.trim() == self.old);
+        gone.then(|| format!("edits/equal: {} {} has no line '{}'", self.of, self.file, self.old))
+    }
+
     pub fn is(&self, m: &Mutant) -> bool {
         (&self.of, &self.file, &self.item) == (&m.of, &m.file, &m.item) && self.old == m.old.trim() && self.new == m.new.trim()
     }
@@ -238,12 +268,22 @@ mod tests {
 
     #[test]
     fn only_code() {
-        for line in ["// 1 < 2", "    ensures { λ r. ⌜ r ≡ 1 ⌝ }", "pub fn f(a: [u8; 10])", "pub extern \"C\" fn f(a: [u8; 10])", "", "use a::b;"] {
-            assert!(!is_code(line, false), "{line}");
-        }
-        assert!(is_code("    a + 1", false));
-        assert!(is_code("f n = n + 1", true));
-        assert!(!is_code("abbrev f : ℕ → ℕ", true));
+        let text =
+            "#![tactic(auto)]\n// 1 < 2\nuse a::b;\npub fn f(\n    a: [u8; 10],\n) -> u8\n    ensures low {\n        1 < 2\n    }\n{\n\
+    a[0] + 1\n}\n\npub extern \"C\" fn g(a: [u8; 10]) {\n    a[1]\n}\nconst A: u8 = 1;\n";
+        let code = code_in(text, false);
+        assert_eq!((0..code.len()).filter(|i| code[*i]).collect::<Vec<_>>(), [10, 11, 14, 15, 16]);
+        assert_eq!(code_in("abbrev f : ℕ → ℕ\nf n = n + 1\n-- 1\n", true), [false, true, false, false]);
+    }
+
+    #[test]
+    fn an_edit_of_the_only_line_of_its_kind() {
+        let text = "fn f() {\n    i + 1\n    i + 1\n}\n";
+        let (of, file, item) = ("c".into(), "src/a.rt".into(), "f".into());
+        let m = Mutant { of, file, item, line: 2, old: "    i + 1".into(), new: "    i + 2".into() };
+        assert_eq!(m.mark(text), "fn f() {\n    i + 1\n    i + 1 // line 3.\n}\n");
+        assert_eq!(m.mark(&m.mark(text)), m.mark(text));
+        assert_eq!(m.edit(), "file: src/a.rt\nold:     i + 1 // line 3.\nnew:     i + 2 // line 3.\n");
     }
 
     #[test]

@@ -1,7 +1,9 @@
-//! Copies of the repository, one for each core, in which edited crates are checked in the incremental loop.
+//! Copies of the repository in which changed crates are checked: by `rt check`, which says all that fails, or by `rt must-fail`, which says
+//! whether each is refused, and tries nothing again that it tried before. Both begin with what checks on this machine kept.
 
-use crate::changes::{body, merged, Body, Changes, Texts};
-use crate::judge::{failures, refused, verdict, Failure, Verdict};
+use crate::edit::Texts;
+use crate::judge::{tried, verdict, Verdict};
+use crate::mutants::Mutant;
 use std::collections::BTreeMap;
 use std::fs;
 use std::path::{Path, PathBuf};
@@ -10,7 +12,7 @@ use std::sync::Mutex;
 use std::time::Instant;
 
 /// A check that takes longer than this many seconds is broken off.
-const LONGEST: &str = "600";
+const LONGEST: &str = "1200";
 
 pub struct Rooms {
     top: PathBuf,
@@ -36,19 +38,30 @@ fn copy(from: &Path, to: &Path) -> Result<(), String> {
     run(Command::new("cp").arg("-R").arg(from).arg(to))
 }
 
-/// What is proved already, which the prover reads and replaces and never writes into: by links where the file system has them.
-fn link(from: &Path, to: &Path) -> Result<(), String> {
-    fs::create_dir_all(to.parent().unwrap_or(to)).map_err(|e| e.to_string())?;
-    let linked = run(Command::new("cp").arg("-Rpl").arg(from).arg(to));
-    linked.or_else(|_| {
-        let _ = fs::remove_dir_all(to);
-        copy(from, to)
-    })
+/// Copies kept work: what is proved by links, since the prover replaces such a file and never writes into it, and the rest as it is.
+fn copy_kept(from: &Path, to: &Path) -> std::io::Result<()> {
+    fs::create_dir_all(to)?;
+    for entry in fs::read_dir(from)? {
+        let at = entry?.path();
+        let goal = to.join(at.file_name().unwrap_or_default());
+        let proved = at.extension().is_some_and(|e| e == "oantt");
+        if at.is_dir() {
+            copy_kept(&at, &goal)?;
+        } else if !proved || fs::hard_link(&at, &goal).is_err() {
+            fs::copy(&at, &goal)?;
+        }
+    }
+    Ok(())
 }
 
-/// What the prover reads of the repository's own crates.
+/// What the prover reads of the repository, as the top of one.
 fn copy_sources(root: &Path, crates: &[String], room: &Path) -> Result<(), String> {
-    copy(&root.join("crates.txt"), &room.join("crates.txt"))?;
+    fs::create_dir_all(room.join(".git")).map_err(|e| e.to_string())?;
+    for file in ["crates.txt", "HANDLES"] {
+        if root.join(file).is_file() {
+            copy(&root.join(file), &room.join(file))?;
+        }
+    }
     for of in crates {
         for part in ["src", "specs", "proofs"] {
             let from = root.join("crates").join(of).join(part);
@@ -60,9 +73,14 @@ fn copy_sources(root: &Path, crates: &[String], room: &Path) -> Result<(), Strin
     Ok(())
 }
 
-/// `rt dev` in a room: its exit status and all that it said.
-fn dev(room: &Path, of: &str) -> (i32, String) {
-    match Command::new("timeout").args([LONGEST, "rt", "dev", of]).current_dir(room).output() {
+/// Where a crate's kept work lies.
+fn kept(room: &Path, of: &str) -> PathBuf {
+    room.join("crates").join(of).join("out/incremental")
+}
+
+/// A command of rt in a folder: its exit status and all that it said.
+fn rt(folder: &Path, longest: &str, words: &[&str]) -> (i32, String) {
+    match Command::new("timeout").args([longest, "rt"]).args(words).current_dir(folder).output() {
         Ok(done) => {
             let said = String::from_utf8_lossy(&done.stdout) + String::from_utf8_lossy(&done.stderr);
             (done.status.code().unwrap_or(2), said.to_string())
@@ -72,62 +90,34 @@ fn dev(room: &Path, of: &str) -> (i32, String) {
 }
 
 impl Rooms {
-    /// So many copies of what the prover reads, with what is proved already.
+    /// So many copies of what the prover reads. Their place stays the same from run to run, since rt notes it.
     pub fn new(root: &Path, crates: &[String], count: usize) -> Result<Rooms, String> {
-        let top = std::env::temp_dir().join(format!("edits-{}", std::process::id()));
-        let rooms: Vec<PathBuf> = (0..count).map(|i| top.join(i.to_string())).collect();
-        let made = Rooms { top, rooms };
-        let warm = std::env::var_os("WARM").map(PathBuf::from);
+        let name = root.to_string_lossy().replace('/', "-");
+        let fixed = std::env::temp_dir().join(format!("edits{name}"));
+        let top = match fs::create_dir(&fixed) {
+            Ok(()) => fixed,
+            Err(_) => fixed.with_file_name(format!("edits{name}-{}", std::process::id())),
+        };
+        let made = Rooms { rooms: (0..count).map(|i| top.join(i.to_string())).collect(), top };
         for room in &made.rooms {
             copy_sources(root, crates, room)?;
-            for (from, part) in ["rlib", "stamp", "inc"].map(|part| (root, part)).into_iter().chain(warm.as_deref().map(|w| (w, "inc"))) {
-                let from = from.join("target").join(part);
-                if from.is_dir() {
-                    let to = room.join("target").join(part);
-                    let _ = fs::remove_dir_all(&to);
-                    if part == "stamp" {
-                        copy(&from, &to)?
-                    } else {
-                        link(&from, &to)?
-                    }
-                }
-            }
         }
         Ok(made)
     }
 
-    /// Checks the crates that need no other of the repository in a folder that stays, for a later run; and what went wrong.
-    pub fn warm(root: &Path, folder: &Path, crates: &BTreeMap<String, Vec<String>>) -> Vec<String> {
-        let names: Vec<String> = crates.keys().cloned().collect();
-        if let Err(fault) = copy_sources(root, &names, folder) {
-            return vec![fault];
-        }
-        let first = crates.iter().filter(|(_, deps)| !deps.iter().any(|d| crates.contains_key(d)));
-        let said = first.map(|(of, _)| dev(folder, of));
-        said.filter(|(status, _)| *status != 0).map(|(_, said)| tail(&said)).collect()
-    }
-
-    /// Checks crates as they stand, one room for each, and gives what that taught the prover to all rooms.
+    /// Checks crates as they stand, one after another, and gives what that taught the prover to all rooms.
     pub fn prove(&self, crates: &[String]) -> Result<(), String> {
-        let proved: Mutex<Vec<(String, usize)>> = Mutex::new(Vec::new());
-        let faults: Mutex<Vec<String>> = Mutex::new(Vec::new());
-        self.each(crates, |room, at, of| {
+        for of in crates {
             let began = Instant::now();
-            let (status, said) = dev(room, of);
-            match verdict(status, &said, "") {
-                Verdict::Survives => {
-                    println!("{of} is proved as it stands ({:.0} s)", began.elapsed().as_secs_f64());
-                    proved.lock().unwrap().push((of.clone(), at));
-                }
-                _ => faults.lock().unwrap().push(format!("{of} is not proved as it stands:\n{}", tail(&said))),
+            let room = &self.rooms[0];
+            let (status, said) = rt(&room.join("crates").join(of), LONGEST, &["check"]);
+            if verdict(status, &said, &Texts::new()) != Verdict::Survives {
+                return Err(format!("{of} is not proved as it stands:\n{}", tail(&said)));
             }
-        });
-        if let Some(fault) = faults.lock().unwrap().first() {
-            return Err(fault.clone());
-        }
-        for (of, at) in proved.lock().unwrap().iter() {
-            link(&self.rooms[*at].join("target/inc").join(of), &self.top.join("proved").join(of))?;
-            for room in self.rooms.iter().filter(|r| **r != self.rooms[*at]) {
+            println!("{of} is proved as it stands ({:.0} s)", began.elapsed().as_secs_f64());
+            let proved = self.top.join("proved").join(of);
+            copy_kept(&kept(room, of), &proved).map_err(|e| e.to_string())?;
+            for room in &self.rooms {
                 as_proved(room, of)?;
             }
         }
@@ -135,92 +125,81 @@ impl Rooms {
     }
 
     /// Takes each of the tasks once, in a room that is free.
-    pub fn each<T: Sync>(&self, tasks: &[T], work: impl Fn(&Path, usize, &T) + Sync) {
+    pub fn each<T: Sync>(&self, tasks: &[T], work: impl Fn(&Path, &T) + Sync) {
         let left = Mutex::new(tasks.iter());
-        self.until_none(|| left.lock().unwrap().next(), |room, at, task| work(room, at, task));
-    }
-
-    /// In each room one task after another, until there is none.
-    pub fn until_none<T>(&self, next: impl Fn() -> Option<T> + Sync, work: impl Fn(&Path, usize, T) + Sync) {
         std::thread::scope(|scope| {
-            for (at, room) in self.rooms.iter().enumerate() {
-                let (next, work) = (&next, &work);
-                scope.spawn(move || {
-                    while let Some(task) = next() {
-                        work(room, at, task);
-                    }
+            for room in &self.rooms {
+                let (left, work) = (&left, &work);
+                scope.spawn(move || loop {
+                    let next = left.lock().unwrap().next();
+                    let Some(task) = next else { break };
+                    work(room, task);
                 });
             }
         });
+    }
+
+    /// Marks the lines of mutants in the first room, so that each is the only one of its file.
+    pub fn mark<'a>(&self, mutants: impl Iterator<Item = &'a Mutant>) -> Result<(), String> {
+        for m in mutants {
+            let path = self.rooms[0].join("crates").join(&m.of).join(&m.file);
+            let text = fs::read_to_string(&path).map_err(|e| format!("{}: {e}", path.display()))?;
+            fs::write(&path, m.mark(&text)).map_err(|e| e.to_string())?;
+        }
+        Ok(())
+    }
+
+    /// The verdict of `rt must-fail` on each of some mutants.
+    pub fn must_fail(&self, mutants: &[Mutant]) -> Vec<Verdict> {
+        let room = &self.rooms[0];
+        let mut of: BTreeMap<&str, usize> = BTreeMap::new();
+        let mut labels = Vec::new();
+        for m in mutants {
+            let folder = room.join("crates").join(&m.of).join("must-fail");
+            let count = of.entry(&m.of).or_insert_with(|| {
+                let _ = fs::remove_dir_all(&folder);
+                0
+            });
+            *count += 1;
+            let label = format!("mutant_{count}");
+            let written = fs::create_dir_all(&folder).and_then(|()| fs::write(folder.join(format!("{label}.edit")), m.edit()));
+            written.expect("a room can be written");
+            labels.push((m.of.clone(), label));
+        }
+        let words: Vec<&str> = std::iter::once("must-fail").chain(of.keys().copied()).collect();
+        let (_, said) = rt(room, "36000", &words);
+        let mut found: BTreeMap<(String, String), Verdict> = BTreeMap::new();
+        found.extend(said.lines().filter_map(tried).map(|(of, label, verdict)| ((of, label), verdict)));
+        labels.iter().map(|key| found.remove(key).unwrap_or_else(|| Verdict::Unclear(tail(&said)))).collect()
     }
 }
 
 /// Gives a room what the prover learnt of a crate as it stands. What it learns of a changed one it would have to learn anew at the next.
 fn as_proved(room: &Path, of: &str) -> Result<(), String> {
-    let to = room.join("target/inc").join(of);
+    let to = kept(room, of);
     let _ = fs::remove_dir_all(&to);
-    link(&room.with_file_name("proved").join(of), &to)
+    copy_kept(&room.with_file_name("proved").join(of), &to).map_err(|e| e.to_string())
 }
 
-/// What `rt dev` says of a crate with some of its files changed, which are put back: its exit status, and all that it said.
-fn said_of(root: &Path, room: &Path, of: &str, texts: &Texts) -> (i32, String) {
+/// What `rt check` says of a crate with some of its files changed, which are put back.
+pub fn checked(root: &Path, room: &Path, of: &str, texts: &Texts) -> Verdict {
     let folder = room.join("crates").join(of);
     for (file, text) in texts {
         fs::write(folder.join(file), text).expect("a room can be written");
     }
-    let said = dev(room, of);
+    let (status, said) = rt(&folder, LONGEST, &["check"]);
+    let source = root.join("crates").join(of);
+    // where a function begins, in a file that was changed or not
+    let mut whole = texts.clone();
+    for path in crate::laws::files(&source.join("src"), "rt") {
+        let file = path.strip_prefix(&source).unwrap_or(&path).to_string_lossy().to_string();
+        whole.entry(file).or_insert_with(|| fs::read_to_string(&path).unwrap_or_default());
+    }
     for file in texts.keys() {
-        fs::copy(root.join("crates").join(of).join(file), folder.join(file)).expect("a room can be written");
+        fs::copy(source.join(file), folder.join(file)).expect("a room can be written");
     }
     as_proved(room, of).expect("a room can be written");
-    said
-}
-
-/// The verdict on each of some changes of a crate. Changes inside different functions are checked together: a function is proved from
-/// its own body and the contracts of those that it calls, so what fails in its own proof fails alone too. Whatever that does not
-/// settle is checked alone.
-pub fn tried(root: &Path, room: &Path, of: &str, changes: &[&Changes]) -> Vec<Verdict> {
-    let folder = room.join("crates").join(of).to_string_lossy().to_string();
-    let source = root.join("crates").join(of);
-    let Some(texts) = merged(&source, changes) else {
-        return alone(root, room, of, changes);
-    };
-    let (status, said) = said_of(root, room, of, &texts);
-    let whole = verdict(status, &said, &folder);
-    let bodies: Vec<Option<Body>> = changes.iter().map(|c| body(&source, c)).collect();
-    match whole {
-        whole if changes.len() == 1 => vec![whole],
-        Verdict::Survives => changes.iter().map(|_| Verdict::Survives).collect(),
-        Verdict::Unclear(_) => alone(root, room, of, changes),
-        _ => {
-            let failures = failures(&said, &folder);
-            let built = said.contains("\nlogic=not-proved");
-            let settled: Vec<Option<Verdict>> = bodies.iter().map(|body| settled(body.as_ref()?, &failures, built)).collect();
-            let open: Vec<&Changes> = changes.iter().zip(&settled).filter(|(_, v)| v.is_none()).map(|(c, _)| *c).collect();
-            let again = if open.len() < changes.len() { tried_or_none(root, room, of, &open) } else { alone(root, room, of, &open) };
-            let mut again = again.into_iter();
-            settled.into_iter().map(|v| v.unwrap_or_else(|| again.next().expect("a verdict"))).collect()
-        }
-    }
-}
-
-fn tried_or_none(root: &Path, room: &Path, of: &str, changes: &[&Changes]) -> Vec<Verdict> {
-    if changes.is_empty() {
-        vec![]
-    } else {
-        tried(root, room, of, changes)
-    }
-}
-
-fn alone(root: &Path, room: &Path, of: &str, changes: &[&Changes]) -> Vec<Verdict> {
-    changes.iter().flat_map(|c| tried(root, room, of, &[c])).collect()
-}
-
-/// What a check of several changes says of the one in a function's body, if it says something.
-fn settled(body: &Body, failures: &[Failure], built: bool) -> Option<Verdict> {
-    let own: Vec<Failure> = failures.iter().filter(|f| body.has(f)).cloned().collect();
-    let first = own.first()?.line.clone();
-    Some(if built { refused(own, vec![]) } else { Verdict::NotBuilt(first) })
+    verdict(status, &said, &whole)
 }
 
 fn tail(said: &str) -> String {
