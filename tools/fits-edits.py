@@ -2,7 +2,7 @@
 """Tells which must-fail edits fit the crates as they stand: tools/fits-edits.py [CRATE..]. It proves nothing, and takes a second.
 
 An edit fits where each `old:` text stands once in its file, where something is changed, and where no line `use ..{..}` names a word
-twice in what it makes. `law:` goes with `fails:`, whose files are those of the crate's proofs/.
+twice in what it makes. `# law:` goes with `# fails:`, whose files are those of the crate's proofs/.
 """
 import collections
 import glob
@@ -11,7 +11,7 @@ import re
 import sys
 
 TOP = os.path.dirname(os.path.dirname(os.path.realpath(__file__)))
-KINDS = ("file: ", "old: ", "new:", "law: ", "fails: ", "#")
+KINDS = ("file: ", "old: ", "new:", "#")
 
 
 def twice(text):
@@ -46,16 +46,16 @@ def faults(edit, folder):
                 yield f"{path} has it {count} times: {old}"
             texts[path] = texts[path].replace(old, line[4:].removeprefix(" "))
             old = None
-        elif line.startswith("fails: "):
-            place = line[7:].split()[0]
+        elif line.startswith("# fails: "):
+            place = line[9:].split()[0]
             if not place.startswith("proofs/") or not place.endswith(".antt"):
                 yield f"no file of proofs/: {place}"
             elif not place.endswith("/Answers.antt") and not os.path.isfile(f"{folder}/{place}"):
-                yield f"a 'fails:' line names {place}, which is not there"
+                yield f"a '# fails:' line names {place}, which is not there"
     if texts == was:
         yield "it changes nothing"
-    if ("law" in seen) != ("fails" in seen):
-        yield "'law:' goes with 'fails:'"
+    if ("# law" in seen) != ("# fails" in seen):
+        yield "'# law:' goes with '# fails:'"
     for path, text in texts.items():
         yield from (f"{path} would import {w} twice" for w in sorted(set(twice(text)) - set(twice(was[path]))))
 

@@ -1,5 +1,5 @@
-//! An edit file of a crate's must-fail/: replacements in its files that the prover must refuse, in the form of `rt ci`; and which laws
-//! refuse it, where it is one that the code's equations let pass.
+//! An edit file of a crate's must-fail/: replacements in its files that the prover must refuse, in the form of `rt ci`;
+//! and which laws refuse it, where it is one that the code's equations let pass.
 
 use crate::source::proof_of;
 use std::collections::BTreeMap;
@@ -9,7 +9,7 @@ use std::path::Path;
 /// Files of a crate, by their path in it, with what they are to hold.
 pub type Texts = BTreeMap<String, String>;
 
-/// `law: RECORD.FIELD`
+/// `# law: RECORD.FIELD`
 #[derive(Clone, Debug, PartialEq)]
 pub struct Law {
     pub record: String,
@@ -21,7 +21,7 @@ pub struct Edit {
     pub of: String,
     pub label: String,
     pub laws: Vec<Law>,
-    /// `fails: FILE [DECLARATION ..]`: where alone a proof may fail by itself
+    /// `# fails: FILE [DECLARATION ..]`: where alone a proof may fail by itself
     pub fails: Vec<(String, Vec<String>)>,
     pub texts: Texts,
 }
@@ -35,13 +35,10 @@ pub fn parse(of: &str, label: &str, text: &str, folder: &Path) -> Result<Edit, S
     let mut texts = Texts::new();
     let mut changed = false;
     for line in text.lines() {
-        if line.is_empty() || line.starts_with('#') {
-            continue;
-        }
-        if let Some(name) = line.strip_prefix("law: ") {
+        if let Some(name) = line.strip_prefix("# law: ") {
             let (record, field) = name.trim().split_once('.').ok_or(format!("'{line}' names no RECORD.FIELD"))?;
             laws.push(Law { record: record.to_string(), field: field.to_string() });
-        } else if let Some(place) = line.strip_prefix("fails: ") {
+        } else if let Some(place) = line.strip_prefix("# fails: ") {
             fails.push(place_in(place, folder)?);
         } else if let Some(name) = line.strip_prefix("file: ") {
             file = name.to_string();
@@ -62,7 +59,7 @@ pub fn parse(of: &str, label: &str, text: &str, folder: &Path) -> Result<Edit, S
             }
             changed |= was != new;
             texts.insert(file.clone(), now.replace(&was, new));
-        } else {
+        } else if !line.is_empty() && !line.starts_with('#') {
             return Err(format!("'{line}' is no line of an edit"));
         }
     }
@@ -70,7 +67,7 @@ pub fn parse(of: &str, label: &str, text: &str, folder: &Path) -> Result<Edit, S
         return Err("an 'old:' line and a 'new:' line are wanted that differ".to_string());
     }
     if laws.is_empty() != fails.is_empty() {
-        return Err("'law:' goes with 'fails:'".to_string());
+        return Err("'# law:' goes with '# fails:'".to_string());
     }
     Ok(Edit { of: of.to_string(), label: label.to_string(), laws, fails, texts })
 }
@@ -78,16 +75,16 @@ pub fn parse(of: &str, label: &str, text: &str, folder: &Path) -> Result<Edit, S
 /// `FILE [DECLARATION ..]`. A function's own proof, which may be in no file, is named by its Answers.antt alone.
 fn place_in(place: &str, folder: &Path) -> Result<(String, Vec<String>), String> {
     let mut words = place.split_whitespace().map(str::to_string);
-    let file = words.next().ok_or("a 'fails:' line names no file")?;
+    let file = words.next().ok_or("a '# fails:' line names no file")?;
     let names: Vec<String> = words.collect();
     if proof_of(&file).is_some() {
         return match names.first() {
-            Some(name) => Err(format!("a 'fails:' line names {name} of a function's own proof, which counts as one")),
+            Some(name) => Err(format!("a '# fails:' line names {name} of a function's own proof, which counts as one")),
             None => Ok((file, names)),
         };
     }
     if !file.starts_with("proofs/") || !folder.join(&file).is_file() {
-        return Err(format!("a 'fails:' line names {file}, which is not there"));
+        return Err(format!("a '# fails:' line names {file}, which is not there"));
     }
     Ok((file, names))
 }
@@ -152,7 +149,7 @@ mod tests {
     #[test]
     fn laws_and_where_proofs_may_fail() {
         let at = folder("laws");
-        let text = |fails: &str| format!("law: A.b\nfails: {fails}\nfile: src/lib.rt\nold: a = 1;\nnew: a = 2;\n");
+        let text = |fails: &str| format!("# law: A.b\n# fails: {fails}\nfile: src/lib.rt\nold: a = 1;\nnew: a = 2;\n");
         let edit = parse("c", "l", &text("proofs/Laws.antt b c"), &at.0).unwrap();
         assert_eq!(edit.laws, [Law { record: "A".into(), field: "b".into() }]);
         assert_eq!(edit.fails, [("proofs/Laws.antt".into(), vec!["b".into(), "c".into()])]);
@@ -173,7 +170,8 @@ mod tests {
             "file: src/lib.rt\nold: a = 1;\n",
             "file: src/lib.rt\nafter: a = 1;\nold: = 1;\nnew: = 2;\n",
             "file: src/lib.rt\nold: a = 1;\nnew: a = 2;\nlore: x\n",
-            "law: A.b\nfile: src/lib.rt\nold: a = 1;\nnew: a = 2;\n",
+            "law: A.b\n# fails: proofs/Laws.antt\nfile: src/lib.rt\nold: a = 1;\nnew: a = 2;\n",
+            "# law: A.b\nfile: src/lib.rt\nold: a = 1;\nnew: a = 2;\n",
         ] {
             assert!(parse("c", "l", text, &at.0).is_err(), "{text}");
         }

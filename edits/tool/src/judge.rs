@@ -1,10 +1,12 @@
-//! What the prover said of a changed crate: of one that `rt check` read, all that fails; of one that `rt must-fail` tried, one line.
+//! What the prover said of a changed crate: of one that `rt check` read, all that fails; of one that `rt must-fail`
+//! tried, one line.
 
 use crate::edit::Texts;
-use crate::source::{proof_at, proof_of};
+use crate::source::{function_at, proof_of};
+use std::collections::BTreeSet;
 
-/// What fails at a place in a file of the crate: a proof, by its declaration or by the function that it is of, or where the code
-/// doesn't compile.
+/// What fails at a place in a file of the crate: a proof, by its declaration or by the function that it is of, or where
+/// the code doesn't compile.
 #[derive(Clone, Debug, Default, PartialEq)]
 pub struct Failure {
     pub file: String,
@@ -17,7 +19,8 @@ pub struct Failure {
 
 #[derive(Clone, Debug, PartialEq)]
 pub enum Verdict {
-    /// a fact fails: the proofs that fail by themselves, and the functions that are not proved, but for those that only call one
+    /// a fact fails: the proofs that fail by themselves, and the functions that are not proved, but for those that only
+    /// call one
     Refused {
         roots: Vec<Failure>,
         functions: Vec<String>,
@@ -39,7 +42,8 @@ pub fn verdict(status: i32, said: &str, texts: &Texts) -> Verdict {
     if status == 0 {
         return if proved { Verdict::Survives } else { Verdict::Unclear(last(said)) };
     }
-    let roots: Vec<Failure> = said.lines().filter_map(|line| failure(line, texts)).collect();
+    let rejected: BTreeSet<(String, String)> = said.lines().flat_map(rejected).collect();
+    let roots: Vec<Failure> = said.lines().filter_map(|line| failure(line, texts, &rejected)).collect();
     if !said.lines().any(|l| l.starts_with("logic=not-proved")) {
         return match roots.first() {
             Some(f) => Verdict::NotBuilt(f.line.clone()),
@@ -62,8 +66,19 @@ fn last(said: &str) -> String {
     said.lines().last().unwrap_or("nothing was said").to_string()
 }
 
+/// The declarations that a line says are not proved, by file: one that fails, or those that cite one.
+fn rejected(line: &str) -> Vec<(String, String)> {
+    let Some((place, message)) = line.split_once(": error: ") else {
+        return vec![];
+    };
+    let file = at(place, "", line).file;
+    let own = message.strip_prefix('`').and_then(|m| m.split_once("`:")).map(|(name, _)| name);
+    let others = message.split_once("not checked: ").map_or("", |(_, names)| names);
+    own.into_iter().chain(others.split(", ").filter(|n| !n.is_empty())).map(|name| (file.clone(), name.to_string())).collect()
+}
+
 /// What fails by itself: no proof that only cites one that failed.
-fn failure(line: &str, texts: &Texts) -> Option<Failure> {
+fn failure(line: &str, texts: &Texts, rejected: &BTreeSet<(String, String)>) -> Option<Failure> {
     if let Some(rest) = line.strip_prefix("note: ") {
         // a goal of a function for which neither its proof file nor the prover has a proof
         let (place, fact) = rest.split_once(": ")?;
@@ -71,8 +86,11 @@ fn failure(line: &str, texts: &Texts) -> Option<Failure> {
             return None;
         }
         let found = at(place, "", line);
-        let proof = texts.get(&found.file).and_then(|text| proof_at(&found.file, text, found.at.max(1) - 1));
-        return Some(Failure { proof, ..found });
+        let function = texts.get(&found.file).and_then(|text| function_at(&found.file, text, found.at.max(1) - 1));
+        if function.as_ref().is_some_and(|f| f.uses.iter().any(|lemma| rejected.contains(lemma))) {
+            return None;
+        }
+        return Some(Failure { proof: function.map(|f| f.proof), ..found });
     }
     if let Some((place, _)) = line.split_once(": error[") {
         return Some(at(place, "", line));
@@ -101,7 +119,8 @@ fn misfit(line: &str) -> bool {
     signs.iter().any(|sign| line.contains(sign))
 }
 
-/// The functions whose own proofs fail: `fn c::f: not proved` and `fn c::f: no proof: ..`, but for those that only call one.
+/// The functions whose own proofs fail: `fn c::f: not proved` and `fn c::f: no proof: ..`, but for those that only call
+/// one.
 fn functions(said: &str) -> Vec<String> {
     let lines = said.lines().filter_map(|l| l.strip_prefix("fn ")?.split_once(": "));
     let own = |what: &str| (what.starts_with("not proved") || what.starts_with("no proof")) && !what.contains(" it calls `");
@@ -156,6 +175,14 @@ fn c::p::f: no proof: expected answers in ./proofs/p/f/Answers.antt; `search` di
         let Verdict::Refused { roots, functions } = verdict(1, said, &texts) else { panic!() };
         assert_eq!((roots.len(), roots[0].proof.as_deref()), (1, Some("proofs/p/f")));
         assert_eq!(functions, ["c::p::f"]);
+        // where it cites a lemma that fails, the lemma alone fails by itself
+        let citing = Texts::from([(
+            "src/p.rt".to_string(),
+            texts["src/p.rt"].replace("// f", "#[tactic(auto, using(crate::proofs::Laws::laws_of))]"),
+        )]);
+        let Verdict::Refused { roots, functions } = verdict(1, &format!("{FACT}{said}"), &citing) else { panic!() };
+        assert!(roots.iter().all(|f| f.proof.as_deref() != Some("proofs/p/f")));
+        assert_eq!(functions, ["c::a", "c::p::f"]);
     }
 
     #[test]

@@ -1,5 +1,5 @@
-//! The laws: every field of every record that a contract cites stands in `edits/laws`, with an edit that only it refuses, or with the
-//! reason why there is none. So a law that is deleted, or added without an edit, fails the run.
+//! The laws: every field of every record that a contract cites stands in `edits/laws`, with an edit that only it
+//! refuses, or with the reason why there is none. So a law that is deleted, or added without an edit, fails the run.
 
 use crate::edit::Edit;
 use crate::judge::Failure;
@@ -100,7 +100,8 @@ fn records_in(text: &str) -> Vec<(String, Vec<(String, String)>)> {
     found
 }
 
-/// `abbrev pub NAME : .. → Type 0`, and below it `NAME .. = ..` on one line or several: a name for a statement, with what it stands for.
+/// `abbrev pub NAME : .. → Type 0`, and below it `NAME .. = ..` on one line or several: a name for a statement, with
+/// what it stands for.
 fn names_in(text: &str) -> Vec<(String, String)> {
     let mut found: Vec<(String, String)> = Vec::new();
     let mut inside = false;
@@ -202,8 +203,8 @@ impl Laws {
         (listed.iter().filter(|l| l.reason.is_empty()).count(), faults)
     }
 
-    /// Whether its laws alone refuse an edit: each proof that fails by itself is one that the edit names, the first one named among
-    /// them, and of the functions whose contracts carry a law one fails with it.
+    /// Whether its laws alone refuse an edit: each proof that fails by itself is one that the edit names, the first one
+    /// named among them, and of the functions whose contracts carry a law one fails with it.
     pub fn alone(&self, edit: &Edit, roots: &[Failure], functions: &[String]) -> Result<(), String> {
         let Some(first) = edit.fails.first() else {
             return Ok(());

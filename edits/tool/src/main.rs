@@ -1,4 +1,5 @@
-//! What the gate asks of the wrong programs beside `rt ci`, which tries each edit of crates/CRATE/must-fail: see edits/README.md.
+//! What the gate asks of the wrong programs beside `rt ci`, which tries each edit of crates/CRATE/must-fail: see
+//! edits/README.md.
 
 #![forbid(unsafe_code)]
 
@@ -169,7 +170,8 @@ fn cores() -> usize {
     set.unwrap_or_else(|| std::thread::available_parallelism().map_or(1, |n| n.get())).max(1)
 }
 
-/// Folders of edits that rt does not read: what lies in edits/ beside the tool, and in the folder of a crate that crates.txt does not list.
+/// Folders of edits that rt does not read: what lies in edits/ beside the tool, and in the folder of a crate that
+/// crates.txt does not list.
 fn strays(root: &Path, names: &[String]) -> Vec<String> {
     let folders = |at: PathBuf| fs::read_dir(at).into_iter().flatten().flatten().map(|e| e.path()).filter(|p| p.is_dir());
     let name = |p: &PathBuf| p.file_name().unwrap_or_default().to_string_lossy().to_string();
@@ -178,8 +180,8 @@ fn strays(root: &Path, names: &[String]) -> Vec<String> {
     own.chain(of.map(|p| format!("crates/{}/must-fail", name(&p)))).map(|f| format!("{f}: rt reads no edits there")).collect()
 }
 
-/// A program that only runs the routines of a library on requests promises nothing of its own: mutants of it say nothing of a proof,
-/// and its answers are compared with the second program's.
+/// A program that only runs the routines of a library on requests promises nothing of its own: mutants of it say
+/// nothing of a proof, and its answers are compared with the second program's.
 fn unpromised(root: &Path, of: &str) -> bool {
     !root.join("crates").join(of).join("specs").is_dir()
 }
@@ -226,8 +228,8 @@ fn judge_edit(edit: &Edit, verdict: Verdict, laws: &laws::Laws, show: bool, took
     }
 }
 
-/// So many mutants of each crate that were refused for a fact or survived. Those that don't compile, that don't fit the proofs, or that
-/// meet a limit of the prover say nothing, and the next ones of the crate are taken instead.
+/// So many mutants of each crate that were refused for a fact or survived. Those that don't compile, that don't fit the
+/// proofs, or that meet a limit of the prover say nothing, and the next ones of the crate are taken instead.
 fn try_mutants(root: &Path, names: &[String], mutants: BTreeMap<String, Vec<Mutant>>, count: usize, tally: &Tally) -> Result<(), String> {
     let began = Instant::now();
     let rooms = Rooms::new(root, names, 1)?;

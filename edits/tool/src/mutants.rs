@@ -80,7 +80,8 @@ fn of_line(line: &str) -> Vec<String> {
     found
 }
 
-/// The numbers that stand by themselves in a line, with their places: no part of a name, no field `.0`, no number with a type.
+/// The numbers that stand by themselves in a line, with their places: no part of a name, no field `.0`, no number with
+/// a type.
 fn numbers(line: &str) -> Vec<(usize, &str)> {
     let word = |c: char| c.is_alphanumeric() || c == '_';
     let mut found = Vec::new();
@@ -97,7 +98,8 @@ fn numbers(line: &str) -> Vec<(usize, &str)> {
     found
 }
 
-/// The lines of a text that are code: no comment, no contract, no signature, no `use`; of a definition in specs/, no type and no field.
+/// The lines of a text that are code: no comment, no contract, no signature, no `use`; of a definition in specs/, no
+/// type and no field.
 fn code_in(text: &str, specs: bool) -> Vec<bool> {
     let lines: Vec<&str> = text.split('\n').collect();
     let mut code: Vec<bool> = lines.iter().map(|line| is_code(line, specs)).collect();
@@ -129,7 +131,8 @@ fn is_code(line: &str, specs: bool) -> bool {
     !bare.is_empty() && !skipped.iter().any(|s| bare.starts_with(s))
 }
 
-/// Whether a line begins an item: mutants are drawn over items by turns, so that no long table or function takes the whole sample.
+/// Whether a line begins an item: mutants are drawn over items by turns, so that no long table or function takes the
+/// whole sample.
 fn begins_item(line: &str, specs: bool) -> bool {
     let bare = line.trim_start();
     match specs {

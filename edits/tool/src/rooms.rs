@@ -1,5 +1,6 @@
-//! Copies of the repository in which changed crates are checked: by `rt check`, which says all that fails, or by `rt must-fail`, which says
-//! whether each is refused, and tries nothing again that it tried before. Both begin with what checks on this machine kept.
+//! Copies of the repository in which changed crates are checked: by `rt check`, which says all that fails, or by `rt
+//! must-fail`, which says whether each is refused, and tries nothing again that it tried before. Both begin with what
+//! checks on this machine kept.
 
 use crate::edit::Texts;
 use crate::judge::{tried, verdict, Verdict};
@@ -38,7 +39,8 @@ fn copy(from: &Path, to: &Path) -> Result<(), String> {
     run(Command::new("cp").arg("-R").arg(from).arg(to))
 }
 
-/// Copies kept work: what is proved by links, since the prover replaces such a file and never writes into it, and the rest as it is.
+/// Copies kept work: what is proved by links, since the prover replaces such a file and never writes into it, and the
+/// rest as it is.
 fn copy_kept(from: &Path, to: &Path) -> std::io::Result<()> {
     fs::create_dir_all(to)?;
     for entry in fs::read_dir(from)? {
@@ -174,7 +176,8 @@ impl Rooms {
     }
 }
 
-/// Gives a room what the prover learnt of a crate as it stands. What it learns of a changed one it would have to learn anew at the next.
+/// Gives a room what the prover learnt of a crate as it stands. What it learns of a changed one it would have to learn
+/// anew at the next.
 fn as_proved(room: &Path, of: &str) -> Result<(), String> {
     let to = kept(room, of);
     let _ = fs::remove_dir_all(&to);
