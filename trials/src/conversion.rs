@@ -19,8 +19,10 @@ pub fn in_source(text: &str) -> Vec<String> {
     for (number, line) in code(text, &mut faults) {
         let at = |what: &str| format!("line {number}: {what}: {line}");
         if let Some(path) = line.strip_prefix("use ") {
-            let name = path.rsplit("::").next().unwrap_or_default();
-            if !is_type(name) {
+            let names = path.split_once('{').map_or(path, |(_, names)| names);
+            let names = names.trim_end_matches('}').split(',').map(str::trim);
+            let mut last = names.filter_map(|name| name.rsplit("::").next());
+            if last.any(|name| !name.is_empty() && !is_type(name)) {
                 faults.push(at("a function of another source"));
             }
             continue;
@@ -95,23 +97,84 @@ pub fn in_machine_code(text: &str) -> Vec<String> {
     faults
 }
 
-/// The lines of code and their numbers, without comments, contracts and what is
-/// named for contracts alone. A contract that is not on one line is a fault,
-/// since code could stand in it unseen.
-fn code<'a>(text: &'a str, faults: &mut Vec<String>) -> Vec<(usize, &'a str)> {
-    let mut kept = vec![];
-    for (index, line) in text.lines().enumerate() {
+/// The lines of code and their numbers, without comments, contracts, attributes
+/// and what is named for contracts alone. A `use` is one line, on however many
+/// it stands; what stands behind a contract or an attribute is code. One that
+/// doesn't end is a fault, since code could stand in it unseen.
+fn code(text: &str, faults: &mut Vec<String>) -> Vec<(usize, String)> {
+    let mut lines = text.lines().zip(1..).map(|(line, number)| {
         let line = line.split_once("//").map_or(line, |(before, _)| before);
-        let line = line.trim().trim_end_matches(';');
-        let contract = line.starts_with("requires {") || line.starts_with("ensures {");
-        if contract && !line.ends_with("⌝ }") {
-            faults.push(format!("line {}: a contract on several lines", index + 1));
+        (number, line.trim().to_string())
+    });
+    let mut kept = vec![];
+    while let Some((number, mut line)) = lines.next() {
+        while let Some(skipped) = skipped(&line) {
+            let mut end = skipped.end(&line);
+            while end.is_none() {
+                let Some((_, more)) = lines.next() else { break };
+                line = format!("{line} {more}");
+                end = skipped.end(&line);
+            }
+            let Some(end) = end else {
+                faults.push(format!("line {number}: no end of it: {line}"));
+                break;
+            };
+            if skipped == Skipped::Use {
+                kept.push((number, line[..end].trim_end_matches(';').to_string()));
+            }
+            line = line[end..].trim().to_string();
         }
-        if !contract && !line.starts_with("ghost use ") && !line.is_empty() {
-            kept.push((index + 1, line));
+        let line = line.trim_end_matches(';');
+        if !line.is_empty() {
+            kept.push((number, line.to_string()));
         }
     }
     kept
+}
+
+/// What may stand on several lines.
+#[derive(Clone, Copy, PartialEq)]
+enum Skipped {
+    Contract,
+    Attribute,
+    GhostUse,
+    Use,
+}
+
+/// What a line begins, if it is something that may stand on several.
+fn skipped(line: &str) -> Option<Skipped> {
+    let begins = |word: &str| {
+        let rest = line.strip_prefix(word);
+        rest.is_some_and(|rest| rest.is_empty() || rest.starts_with([' ', '{', '*', '(']))
+    };
+    if begins("requires") || begins("ensures") {
+        Some(Skipped::Contract)
+    } else if line.starts_with("#[") || line.starts_with("#![") {
+        Some(Skipped::Attribute)
+    } else if begins("ghost use") {
+        Some(Skipped::GhostUse)
+    } else {
+        begins("use").then_some(Skipped::Use)
+    }
+}
+
+impl Skipped {
+    /// The place behind it, if the text has its end.
+    fn end(self, text: &str) -> Option<usize> {
+        let (open, close) = match self {
+            Skipped::Contract => ('{', '}'),
+            Skipped::Attribute => ('[', ']'),
+            Skipped::GhostUse | Skipped::Use => return text.find(';').map(|at| at + 1),
+        };
+        let mut depth = 0;
+        for (at, c) in text.char_indices() {
+            depth += i32::from(c == open) - i32::from(c == close);
+            if c == close && depth == 0 {
+                return Some(at + 1);
+            }
+        }
+        None
+    }
 }
 
 /// The number that a word is, in decimal or hex, with a type behind it or not.

@@ -6,6 +6,9 @@ use std::fs;
 use std::path::Path;
 use trials::conversion::{copied, in_machine_code, in_source, EXPORTED, SOURCE};
 
+/// A line of the source before which another one is planted.
+const USE: &str = "use crate::refusals::Refusal;\n";
+
 fn source(name: &str) -> String {
     let crates = Path::new(env!("CARGO_MANIFEST_DIR")).join("../crates");
     fs::read_to_string(crates.join(name)).expect("a source")
@@ -74,16 +77,19 @@ fn functions_of_other_sources() {
     for (old, new) in [
         ("in_512ths(n) >> 9", "crate::bytes::quotient(n)"),
         ("in_512ths(n) >> 9", "std::num::quotient(n)"),
-        (
-            "use crate::units::FrameCount;",
-            "use crate::units::FrameCount;\nuse crate::bytes::quotient;",
-        ),
-        (
-            "use crate::units::FrameCount;",
-            "use crate::units::FrameCount;\nuse crate::bytes;",
-        ),
+        (USE, "use crate::bytes::quotient;\n"),
+        (USE, "use crate::bytes;\n"),
+        (USE, "use crate::bytes::quotient as Quotient;\n"),
+        (USE, "use crate::bytes::{Bytes, quotient};\n"),
+        (USE, "use crate::bytes::{\n    Bytes,\n    quotient,\n};\n"),
+        (USE, "#[derive(Copy)] use crate::bytes::quotient;\n"),
     ] {
-        let faults = in_source(&planted(&text, old, new));
+        let new = if old == USE {
+            format!("{new}{USE}")
+        } else {
+            new.to_string()
+        };
+        let faults = in_source(&planted(&text, old, &new));
         assert!(
             faults.iter().any(|fault| fault.contains("another source")),
             "{new}: {faults:?}"
@@ -94,13 +100,27 @@ fn functions_of_other_sources() {
 #[test]
 fn comments_and_contracts_are_no_code() {
     let text = source(SOURCE);
-    assert!(text.contains("13981 / 2048") && text.contains("⌜ r ≡ n / 75 ⌝"));
-    let old = "    ensures { λ r. ⌜ r ≡ n / 75 ⌝ }\n";
-    let parted = planted(&text, old, "    ensures { λ r.\n ⌜ r ≡ n / 75 ⌝ }\n");
-    assert!(
-        !in_source(&parted).is_empty(),
-        "a contract on several lines"
-    );
+    let contract = "    ensures { result ≡ n / 75 }\n";
+    assert!(text.contains("13981 / 2048") && text.contains(contract));
+    for parted in [
+        "    ensures quotient {\n        result ≡ n / 75\n    }\n",
+        "    #[tactic(auto, unfolding(crate::specs::Times::clock))]\n    ensures { result ≡ n / 75 }\n",
+        "    #[tactic(\n        auto,\n    )]\n    ensures { result ≡ n / 75 }\n",
+    ] {
+        assert_eq!(in_source(&planted(&text, contract, parted)), [""; 0], "{parted}");
+    }
+    for hidden in [
+        "    ensures { result ≡ n / 75 } { n / 75 }\n",
+        "    ensures quotient {\n        result ≡ n / 75\n    } { n / 75 }\n",
+        "    ensures {\n    ensures { result ≡ n / 75 }\n",
+        "    #[tactic(auto)] n / 75;\n    ensures { result ≡ n / 75 }\n",
+        "    ghost use a; n / 75;\n    ensures { result ≡ n / 75 }\n",
+    ] {
+        assert!(
+            !in_source(&planted(&text, contract, hidden)).is_empty(),
+            "{hidden}"
+        );
+    }
 }
 
 #[test]

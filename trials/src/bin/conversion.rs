@@ -54,11 +54,15 @@ fn in_sources(crates: &Path) -> io::Result<Vec<String>> {
     Ok(faults)
 }
 
-/// Every file of Rattle below a folder.
+/// Every file of Rattle below a folder, but for what a check left in a crate's
+/// out/.
 fn sources_below(folder: &Path) -> io::Result<Vec<PathBuf>> {
     let mut found = vec![];
     for entry in fs::read_dir(folder)? {
         let path = entry?.path();
+        if path.is_dir() && path.file_name().is_some_and(|n| n == "out") {
+            continue;
+        }
         if path.is_dir() {
             found.extend(sources_below(&path)?);
         } else if path.extension().is_some_and(|e| e == "rt") {
