@@ -53,12 +53,11 @@ pub fn verdict(status: i32, said: &str, texts: &Texts) -> Verdict {
     if let Some(f) = roots.iter().find(|f| f.file.starts_with("specs/") || f.line.contains(": error[")) {
         return Verdict::NotBuilt(f.line.clone());
     }
-    if let Some(f) = roots.iter().find(|f| misfit(&f.line)) {
-        return Verdict::Shape(f.line.clone());
-    }
-    match roots.is_empty() {
-        true => Verdict::Unclear(last(said)),
-        false => Verdict::Refused { roots, functions: functions(said) },
+    let (misfits, roots): (Vec<Failure>, Vec<Failure>) = roots.into_iter().partition(|f| misfit(&f.line));
+    match (roots.is_empty(), misfits.first()) {
+        (false, _) => Verdict::Refused { roots, functions: functions(said) },
+        (true, Some(f)) => Verdict::Shape(f.line.clone()),
+        (true, None) => Verdict::Unclear(last(said)),
     }
 }
 
@@ -74,7 +73,9 @@ fn rejected(line: &str) -> Vec<(String, String)> {
     let file = at(place, "", line).file;
     let own = message.strip_prefix('`').and_then(|m| m.split_once("`:")).map(|(name, _)| name);
     let others = message.split_once("not checked: ").map_or("", |(_, names)| names);
-    own.into_iter().chain(others.split(", ").filter(|n| !n.is_empty())).map(|name| (file.clone(), name.to_string())).collect()
+    // `A, B (via A) and 10 more`
+    let others = others.split(", ").filter_map(|n| n.split(' ').next()).filter(|n| !n.is_empty());
+    own.into_iter().chain(others).map(|name| (file.clone(), name.to_string())).collect()
 }
 
 /// What fails by itself: no proof that only cites one that failed.
@@ -96,13 +97,17 @@ fn failure(line: &str, texts: &Texts, rejected: &BTreeSet<(String, String)>) -> 
         return Some(at(place, "", line));
     }
     let (place, message) = line.split_once(": error: ")?;
-    let cites = ["was not admitted (", "which was rejected, was not checked", "which were rejected, was not checked", ", were not checked"];
-    if cites.iter().any(|words| message.contains(words)) {
+    if cites(message) {
         return None;
     }
     let declaration = message.strip_prefix('`').and_then(|m| m.split_once("`:")).map_or("", |(name, _)| name);
     let found = at(place, declaration, line);
     Some(Failure { proof: proof_of(&found.file).map(str::to_string), ..found })
+}
+
+/// Whether a message is of declarations that only cite one that failed.
+fn cites(message: &str) -> bool {
+    message.contains(" was not admitted (") || message.contains(" that depend") && message.contains(" not checked: ")
 }
 
 /// FILE:LINE:COLUMN
@@ -154,7 +159,7 @@ mod tests {
 
     const FACT: &str = "checked c::a, 1 of 3\n./proofs/a/Answers.antt:80:5: error: `returns`: the two types differ\n\
 ./proofs/a/Answers.antt:98:5: error: `a_spec`: `returns` was not admitted (it has holes), so this cannot be checked\n\
-./proofs/Laws.antt:11:5: error: 1 declaration that depends on `same`, which was rejected, was not checked: laws_of\n\
+./proofs/Laws.antt:11:5: error: 2 declarations that depend on `same`, which was rejected, were not checked: one, laws_of (via one)\n\
 fn c::a: not proved\nfn c::b: no proof: it calls `c::a`, which is not proved\nfn c::d: proved\nlogic=not-proved\nrt: rt lemma WORD..\n";
 
     #[test]
@@ -189,8 +194,10 @@ fn c::p::f: no proof: expected answers in ./proofs/p/f/Answers.antt; `search` di
     fn what_shows_nothing() {
         let misfits = ["module `T` has no `returns_7` that can be named", "`c.x` has no field `y`", "`z` is not in scope"];
         for misfit in misfits {
-            let said = format!("./proofs/a/Answers.antt:1:1: error: {misfit}\n{FACT}");
-            assert!(matches!(verdict(1, &said, &Texts::new()), Verdict::Shape(_)), "{misfit}");
+            let line = format!("./proofs/a/Answers.antt:1:1: error: {misfit}\n");
+            assert!(matches!(verdict(1, &format!("{line}logic=not-proved\n"), &Texts::new()), Verdict::Shape(_)), "{misfit}");
+            // beside it a fact fails: that is what counts
+            assert_eq!(verdict(1, &format!("{line}{FACT}"), &Texts::new()), verdict(1, FACT, &Texts::new()), "{misfit}");
         }
         let said = format!("./specs/A.antt:1:1: error: `f`: expected type `ℕ`\n{FACT}");
         assert!(matches!(verdict(1, &said, &Texts::new()), Verdict::NotBuilt(_)));
