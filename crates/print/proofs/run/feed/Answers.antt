@@ -55,7 +55,3 @@ returns c =
       stage = sym (fed_all (stage_in c.loop-at.current c.loop-at.text) a.input.now c.loop-at.at (omega arith)) ∙ c.loop-at.invariant.3;
       room = omega arith;
     }
-
--- no goal today: overflow-sub-next-block
--- sub_next_block : tie.Need-overflow-sub-next-block invariant-loop decreases-loop
--- sub_next_block c = omega (arith, ends c)
