@@ -99,8 +99,9 @@ pub fn in_machine_code(text: &str) -> Vec<String> {
 
 /// The lines of code and their numbers, without comments, contracts, attributes
 /// and what is named for contracts alone. A `use` is one line, on however many
-/// it stands; what stands behind a contract or an attribute is code. One that
-/// doesn't end is a fault, since code could stand in it unseen.
+/// it stands; what stands behind a contract or an attribute is code. A contract
+/// that is not on one line is a fault, and so is what doesn't end, since code
+/// could stand in it unseen.
 fn code(text: &str, faults: &mut Vec<String>) -> Vec<(usize, String)> {
     let mut lines = text.lines().zip(1..).map(|(line, number)| {
         let line = line.split_once("//").map_or(line, |(before, _)| before);
@@ -110,6 +111,9 @@ fn code(text: &str, faults: &mut Vec<String>) -> Vec<(usize, String)> {
     while let Some((number, mut line)) = lines.next() {
         while let Some(skipped) = skipped(&line) {
             let mut end = skipped.end(&line);
+            if end.is_none() && skipped == Skipped::Contract {
+                faults.push(format!("line {number}: a contract on several lines"));
+            }
             while end.is_none() {
                 let Some((_, more)) = lines.next() else { break };
                 line = format!("{line} {more}");

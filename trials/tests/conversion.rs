@@ -102,8 +102,12 @@ fn comments_and_contracts_are_no_code() {
     let text = source(SOURCE);
     let contract = "    ensures { result ≡ n / 75 }\n";
     assert!(text.contains("13981 / 2048") && text.contains(contract));
+    let parted = planted(&text, contract, "    ensures {\n        result ≡ n / 75\n    }\n");
+    assert!(
+        !in_source(&parted).is_empty(),
+        "a contract on several lines"
+    );
     for parted in [
-        "    ensures quotient {\n        result ≡ n / 75\n    }\n",
         "    #[tactic(auto, unfolding(crate::specs::Times::clock))]\n    ensures { result ≡ n / 75 }\n",
         "    #[tactic(\n        auto,\n    )]\n    ensures { result ≡ n / 75 }\n",
     ] {
