@@ -78,8 +78,12 @@ fn rejected(line: &str) -> Vec<(String, String)> {
     own.into_iter().chain(others).map(|name| (file.clone(), name.to_string())).collect()
 }
 
-/// What fails by itself: no proof that only cites one that failed.
+/// What fails by itself: no proof that only cites one that failed, and nothing that is told `so far`, which is told
+/// again.
 fn failure(line: &str, texts: &Texts, rejected: &BTreeSet<(String, String)>) -> Option<Failure> {
+    if line.starts_with("so far: ") {
+        return None;
+    }
     if let Some(rest) = line.strip_prefix("note: ") {
         // a goal of a function for which neither its proof file nor the prover has a proof
         let (place, fact) = rest.split_once(": ")?;
@@ -125,11 +129,15 @@ fn misfit(line: &str) -> bool {
 }
 
 /// The functions whose own proofs fail: `fn c::f: not proved` and `fn c::f: no proof: ..`, but for those that only call
-/// one.
+/// one; and those whose proof files cite what fails, whatever else is said of them.
 fn functions(said: &str) -> Vec<String> {
-    let lines = said.lines().filter_map(|l| l.strip_prefix("fn ")?.split_once(": "));
+    let short = |path: &str, parts: &str| path.rsplit(parts).next().unwrap_or(path).to_string();
     let own = |what: &str| (what.starts_with("not proved") || what.starts_with("no proof")) && !what.contains(" it calls `");
-    lines.filter(|(_, what)| own(what)).map(|(name, _)| name.to_string()).collect()
+    let told = said.lines().filter_map(|l| l.strip_prefix("fn ")?.split_once(": ")).filter(|(_, what)| own(what));
+    let citing = said.lines().filter_map(|l| l.split_once(": error: ")).filter(|(_, message)| cites(message));
+    let citing = citing.filter_map(|(place, _)| proof_of(&at(place, "", "").file).map(|folder| short(folder, "/")));
+    let found: BTreeSet<String> = told.map(|(name, _)| short(name, "::")).chain(citing).collect();
+    found.into_iter().collect()
 }
 
 /// The crate and label of an edit that `rt must-fail` tried, and its verdict, where a line says one.
@@ -157,10 +165,11 @@ pub fn tried(line: &str) -> Option<(String, String, Verdict)> {
 mod tests {
     use super::*;
 
-    const FACT: &str = "checked c::a, 1 of 3\n./proofs/a/Answers.antt:80:5: error: `returns`: the two types differ\n\
+    const FACT: &str = "checked c::a, 1 of 3\nso far: ./proofs/a/Answers.antt:80:5: error: `returns`: the two types differ\n./proofs/a/Answers.antt:80:5: error: `returns`: the two types differ\n\
 ./proofs/a/Answers.antt:98:5: error: `a_spec`: `returns` was not admitted (it has holes), so this cannot be checked\n\
 ./proofs/Laws.antt:11:5: error: 2 declarations that depend on `same`, which was rejected, were not checked: one, laws_of (via one)\n\
-fn c::a: not proved\nfn c::b: no proof: it calls `c::a`, which is not proved\nfn c::d: proved\nlogic=not-proved\nrt: rt lemma WORD..\n";
+./proofs/b/Answers.antt:1:5: error: 1 declaration that depends on `laws_of`, which was not admitted, was not checked: returns\n\
+fn c::a: not proved\nfn c::b: not proved; it calls `c::e`, which is not proved\nfn c::e: no proof: it calls `c::a`, which is not proved\nfn c::d: proved\nlogic=not-proved\nrt: rt lemma WORD..\n";
 
     #[test]
     fn a_fact_fails() {
@@ -168,7 +177,7 @@ fn c::a: not proved\nfn c::b: no proof: it calls `c::a`, which is not proved\nfn
         assert_eq!(roots.len(), 1);
         assert_eq!((roots[0].file.as_str(), roots[0].declaration.as_str()), ("proofs/a/Answers.antt", "returns"));
         assert_eq!(roots[0].proof.as_deref(), Some("proofs/a"));
-        assert_eq!(functions, ["c::a"]);
+        assert_eq!(functions, ["a", "b"]);
     }
 
     #[test]
@@ -179,7 +188,7 @@ fn c::p::f: no proof: expected answers in ./proofs/p/f/Answers.antt; `search` di
         let texts = Texts::from([("src/p.rt".to_string(), "// f\nfn f() -> u8\n{\n    1\n}\n".to_string())]);
         let Verdict::Refused { roots, functions } = verdict(1, said, &texts) else { panic!() };
         assert_eq!((roots.len(), roots[0].proof.as_deref()), (1, Some("proofs/p/f")));
-        assert_eq!(functions, ["c::p::f"]);
+        assert_eq!(functions, ["f"]);
         // where it cites a lemma that fails, the lemma alone fails by itself
         let citing = Texts::from([(
             "src/p.rt".to_string(),
@@ -187,7 +196,7 @@ fn c::p::f: no proof: expected answers in ./proofs/p/f/Answers.antt; `search` di
         )]);
         let Verdict::Refused { roots, functions } = verdict(1, &format!("{FACT}{said}"), &citing) else { panic!() };
         assert!(roots.iter().all(|f| f.proof.as_deref() != Some("proofs/p/f")));
-        assert_eq!(functions, ["c::a", "c::p::f"]);
+        assert_eq!(functions, ["a", "b", "f"]);
     }
 
     #[test]
