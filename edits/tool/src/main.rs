@@ -5,6 +5,7 @@
 
 mod edit;
 mod judge;
+mod kept;
 mod laws;
 mod mutants;
 mod rooms;
@@ -12,6 +13,7 @@ mod source;
 
 use edit::Edit;
 use judge::Verdict;
+use kept::Kept;
 use mutants::Mutant;
 use rooms::{checked, Rooms};
 use std::collections::{BTreeMap, VecDeque};
@@ -186,25 +188,32 @@ fn unpromised(root: &Path, of: &str) -> bool {
     !root.join("crates").join(of).join("specs").is_dir()
 }
 
-/// The edits of laws, each in a room of its own: whether only the proofs fail by themselves that they name.
+/// The edits of laws, each in a room of its own: whether only the proofs fail by themselves that they name. What an
+/// earlier run found so is not tried again, but where what fails is to be shown.
 fn try_fails(root: &Path, names: &[String], edits: &[Edit], laws: &laws::Laws, show: bool, tally: &Tally) -> Result<(), String> {
-    let used: Vec<String> = names.iter().filter(|of| edits.iter().any(|e| e.of == **of)).cloned().collect();
+    let kept = Kept::new(root, names);
+    let (known, new): (Vec<Edit>, Vec<Edit>) = edits.iter().cloned().partition(|e| !show && kept.has(e));
+    known.iter().for_each(|e| tally.pass(&format!("{}/{}: refused by its law alone, as an earlier run found", e.of, e.label)));
+    let used: Vec<String> = names.iter().filter(|of| new.iter().any(|e| e.of == **of)).cloned().collect();
     if used.is_empty() {
         return Ok(());
     }
     let rooms = Rooms::new(root, names, cores())?;
     rooms.prove(&used)?;
     let began = Instant::now();
-    rooms.each(edits, |room, edit| {
+    rooms.each(&new, |room, edit| {
         let began = Instant::now();
         let verdict = checked(root, room, &edit.of, &edit.texts);
-        judge_edit(edit, verdict, laws, show, began.elapsed().as_secs_f64(), tally);
+        if judge_edit(edit, verdict, laws, show, began.elapsed().as_secs_f64(), tally) {
+            kept.keep(edit);
+        }
     });
-    println!("{} edits tried ({:.0} s)", edits.len(), began.elapsed().as_secs_f64());
+    println!("{} edits tried ({:.0} s)", new.len(), began.elapsed().as_secs_f64());
     Ok(())
 }
 
-fn judge_edit(edit: &Edit, verdict: Verdict, laws: &laws::Laws, show: bool, took: f64, tally: &Tally) {
+/// Tells what became of an edit, and whether its laws alone refuse it.
+fn judge_edit(edit: &Edit, verdict: Verdict, laws: &laws::Laws, show: bool, took: f64, tally: &Tally) -> bool {
     let name = format!("{}/{}", edit.of, edit.label);
     if let (true, Verdict::Refused { roots, functions }) = (show, &verdict) {
         roots.iter().for_each(|f| {
@@ -217,7 +226,8 @@ fn judge_edit(edit: &Edit, verdict: Verdict, laws: &laws::Laws, show: bool, took
         Verdict::Refused { roots, functions } => match laws.alone(edit, &roots, &functions) {
             Ok(()) => {
                 let by: Vec<String> = edit.laws.iter().map(|l| format!(" by {}.{}", l.record, l.field)).collect();
-                tally.pass(&format!("{name}: refused{} ({took:.1} s)", by.join(" and")))
+                tally.pass(&format!("{name}: refused{} ({took:.1} s)", by.join(" and")));
+                return true;
             }
             Err(why) => tally.fail(&format!("{name}: not refused by its law alone: {why}")),
         },
@@ -226,6 +236,7 @@ fn judge_edit(edit: &Edit, verdict: Verdict, laws: &laws::Laws, show: bool, took
         Verdict::Shape(line) => tally.fail(&format!("{name}: refused for its shape only, which shows nothing: {line}")),
         Verdict::Limit(line) | Verdict::Unclear(line) => tally.fail(&format!("{name}: the prover could not tell: {line}")),
     }
+    false
 }
 
 /// So many mutants of each crate that were refused for a fact or survived. Those that don't compile, that don't fit the
