@@ -1,66 +1,63 @@
 -- Laws on bytes, and on the tests over them.
 use mathlib.Core.Path.{◌≡◌, refl, sym, ap, ◌∙◌}
 use mathlib.Core.List.{List, [], ◌∷◌, ◌++◌}
-use mathlib.Core.Bool.{Bool, true, false, ◌&&◌}
+use mathlib.Core.Bool.{Bool, true, ◌&&◌}
 use Prim.Native.Nat.{ℕ, suc, zero, ◌+◌, ◌*◌, ◌/◌, ◌%◌, ◌≤◌, ◌<◌}
 use native.Mathlib.Omega.{arith}
-use borrow.Author.Tests.{eq-eqb, ne_eqb, eqb-true}
+use borrow.Author.Tests.{eq-eqb, eqb-true}
 use lib.Dec.{eqb}
-use lib.ListN.{length, get_or, take, drop, replicate, drop_of_length-le, length-append}
+use borrow.Rule.Slice.PartMut.{put_mid}
+use Rattle.std.proofs.Common.{append_assoc}
+use Rattle.std.specs.List.{sum, list_all}
+use Rattle.std.specs.Int.{to_be_bytes, w16, w32}
+use Rattle.std.specs.Cmp.Lexicographic.{pointwise}
+use Rattle.std.proofs.lemmas.List.Sums.{sum_by-cons}
+use lib.ListN.{length, get_or, take, drop, replicate, length-append}
 use lib.Seq.{drop-drop, take_at, drop_at, length-take-le}
-use Rattle.basics.specs.Bytes.{sum_of, all_zero, same_bytes, put_at, be32, bytes32}
-use Rattle.basics.proofs.Tests.{false_true, both}
-use Rattle.basics.proofs.Lists.{drop_next}
+use Rattle.basics.specs.Bytes.{sum_of, all_zero, same_bytes, put_at, be32, bytes16, bytes32}
+use Rattle.std.proofs.lemmas.Bool.{and_parts, false≢true}
 
--- ---- one more byte
+-- ---- what std's words say of bytes
 
-pub sum_next : (s : List ℕ) (i : ℕ) → i < length s → sum_of (drop i s) ≡ get_or s i 0 + sum_of (drop (i + 1) s)
+-- the sum of all
+pub total_is : (s : List ℕ) → sum s ≡ sum_of s
 unfolding sum_of
-sum_next s i h = ap sum_of (drop_next s i h)
+total_is [] = refl
+total_is (x ∷ s) = sum_by-cons (λ y. y) x s ∙ ap (λ (n : ℕ). x + n) (total_is s)
 
-pub sum_end : (s : List ℕ) (i : ℕ) → length s ≤ i → sum_of (drop i s) ≡ 0
-unfolding sum_of
-sum_end s i h = ap sum_of (drop_of_length-le s h)
+-- a test of all for 0
+pub all_zero_is : (s : List ℕ) → list_all (λ x. eqb x 0) s ≡ all_zero s
+unfolding all_zero
+all_zero_is [] = refl
+all_zero_is (x ∷ s) = ap (λ (b : Bool). eqb x 0 && b) (all_zero_is s)
+
+-- `==` of slices
+pub equal_is : (s t : List ℕ) → pointwise eqb s t ≡ same_bytes s t
+unfolding same_bytes
+equal_is [] [] = refl
+equal_is [] (y ∷ t) = refl
+equal_is (x ∷ s) [] = refl
+equal_is (x ∷ s) (y ∷ t) = ap (λ (b : Bool). eqb x y && b) (equal_is s t)
+
+-- a part that is written
+pub part_is : (d s : List ℕ) (p n : ℕ) → n ≡ length s → put_mid p n d s ≡ put_at d p s
+unfolding put_at
+part_is d s p n e = rw (e, drop-drop (length s) p d, append_assoc) refl
 
 pub sum_append : (s t : List ℕ) → sum_of (s ++ t) ≡ sum_of s + sum_of t
 unfolding sum_of
 sum_append [] t = omega arith
 sum_append (x ∷ s) t = omega (arith, sum_append s t)
 
-zero_next : (s : List ℕ) (i : ℕ) → i < length s → all_zero (drop i s) ≡ (eqb (get_or s i 0) 0 && all_zero (drop (i + 1) s))
-unfolding all_zero
-zero_next s i h = ap all_zero (drop_next s i h)
-
--- a test for zeros that has come to i: the byte there is 0, or it isn't, or no byte is left
-pub zero_on : (s : List ℕ) (i : ℕ) (so : Bool) → i < length s → get_or s i 0 ≡ 0 → (so && all_zero (drop (i + 1) s)) ≡ (so && all_zero (drop i s))
-zero_on s i so h e = rw (zero_next s i h, eq-eqb _ _ e) refl
-
-pub zero_off : (s : List ℕ) (i : ℕ) (so : Bool) → i < length s → (get_or s i 0 ≡ 0 → ⊥) → false ≡ (so && all_zero (drop i s))
-zero_off s i true h n = sym (zero_next s i h ∙ simp (ne_eqb _ _ n))
-zero_off s i false h n = refl
-
-pub zero_end : (s : List ℕ) (i : ℕ) (so : Bool) → length s ≤ i → so ≡ (so && all_zero (drop i s))
-unfolding all_zero
-zero_end s i true h = sym (ap all_zero (drop_of_length-le s h))
-zero_end s i false h = refl
-
-pub same_next : (s t : List ℕ) (i : ℕ) → i < length s → length s ≡ length t → same_bytes (drop i s) (drop i t) ≡ (eqb (get_or s i 0) (get_or t i 0) && same_bytes (drop (i + 1) s) (drop (i + 1) t))
-unfolding same_bytes
-same_next s t i h e = let k : i < length t = omega arith in rw (drop_next s i h, drop_next t i k)
-
-pub same_end : (s t : List ℕ) (i : ℕ) → length s ≤ i → length s ≡ length t → same_bytes (drop i s) (drop i t) ≡ true
-unfolding same_bytes
-same_end s t i h e = let k : length t ≤ i = omega arith in rw (drop_of_length-le s h, drop_of_length-le t k)
-
 -- ---- tests over whole lists
 
 pub same_is : (a b : List ℕ) → same_bytes a b ≡ true → a ≡ b
 unfolding same_bytes
 same_is [] [] e = refl
-same_is [] (y ∷ b) e = absurd (false_true e)
-same_is (x ∷ a) [] e = absurd (false_true e)
+same_is [] (y ∷ b) e = absurd (false≢true e)
+same_is (x ∷ a) [] e = absurd (false≢true e)
 same_is (x ∷ a) (y ∷ b) e =
-    let w = both (eqb x y) (same_bytes a b) e in
+    let w = and_parts (eqb x y) (same_bytes a b) e in
     rw (eqb-true x y w.0, same_is a b w.1)
 
 pub same_refl : (a : List ℕ) → same_bytes a a ≡ true
@@ -72,7 +69,7 @@ pub zeros_are : (x : List ℕ) → all_zero x ≡ true → x ≡ replicate (leng
 unfolding all_zero
 zeros_are [] e = refl
 zeros_are (a ∷ x) e =
-    let s = both (eqb a 0) (all_zero x) e in
+    let s = and_parts (eqb a 0) (all_zero x) e in
     rw (eqb-true a 0 s.0, ← zeros_are x s.1)
 
 pub zeros_zero : (n : ℕ) → all_zero (replicate n 0) ≡ true
@@ -83,9 +80,17 @@ zeros_zero (suc n) = zeros_zero n
 pub zeros_sum : (x : List ℕ) → all_zero x ≡ true → sum_of x ≡ 0
 unfolding all_zero sum_of
 zeros_sum [] e = refl
-zeros_sum (a ∷ x) e = let s = both (eqb a 0) (all_zero x) e in omega (arith, eqb-true a 0 s.0, zeros_sum x s.1)
+zeros_sum (a ∷ x) e = let s = and_parts (eqb a 0) (all_zero x) e in omega (arith, eqb-true a 0 s.0, zeros_sum x s.1)
 
 -- ---- numbers in bytes
+
+-- what `to_be_bytes` gives
+pub be_bytes16 : (n : ℕ) → n < 65536 → to_be_bytes w16 n ≡ bytes16 n
+be_bytes16 n h = let e : n / 256 % 256 ≡ n / 256 = omega arith in rw e
+
+pub be_bytes32 : (n : ℕ) → n < 4294967296 → to_be_bytes w32 n ≡ bytes32 n
+unfolding bytes32
+be_bytes32 n h = let e : n / 16777216 % 256 ≡ n / 16777216 = omega arith in rw e
 
 -- each element is a byte, as the elements of a `&[u8]` are
 abbrev pub Bytes : List ℕ → Type 0

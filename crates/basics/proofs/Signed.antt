@@ -1,9 +1,8 @@
 -- Laws on sums of signed numbers, as the machine makes them.
 use Prim.Native.Nat.{ℕ, suc, ◌-◌, ◌<◌, ◌≤◌, ◌^◌}
 use native.Mathlib.Omega.{arith}
-use native.Mathlib.Decide.{dec_lt}
 use mathlib.Core.Path.{◌≡◌, ◌∙◌}
-use mathlib.Core.Logic.{◌⊎◌, inl, inr, ⊎_elim}
+use mathlib.Core.Logic.{◌⊎◌, inl, inr}
 use lib.IntN.{ℤ, pos, negsuc, ◌+ℤ◌, ◌-ℤ◌}
 use borrow.Author.Tests.{le-ltb, lt-ltb}
 use mir.Syntax.{w64}
@@ -22,7 +21,3 @@ module _ (z : ℤ) (k n : ℕ) (s : SFits w64 z) (e : z +ℤ pos k ≡ pos n) (h
 pub less : (f m : ℕ) → Dec (f < suc m) → ((f < suc m) × (pos f -ℤ pos (suc m) ≡ negsuc (suc m - suc f))) ⊎ ((suc m ≤ f) × (pos f -ℤ pos (suc m) ≡ pos (f - suc m)))
 less f m (yes l) = inl (l, simp (lt-ltb f (suc m) l))
 less f m (no n) = let g : suc m ≤ f = omega arith in inr (g, simp (le-ltb f (suc m) g))
-
--- the difference of two numbers of 32 bits fits an i64
-pub down_fits : (f m : ℕ) → f < 2 ^ 32 → m < 2 ^ 32 → SFits w64 (pos f -ℤ pos (suc m))
-down_fits f m h k = ⊎_elim (λ w. rw w.1 (record { sfits = omega arith })) (λ w. rw w.1 (record { sfits = omega arith })) (less f m (dec_lt f (suc m)))

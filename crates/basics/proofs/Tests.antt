@@ -1,17 +1,9 @@
 -- Laws on tests.
 use mathlib.Core.Path.{◌≡◌, refl}
-use mathlib.Core.Bool.{Bool, true, false, ◌&&◌}
+use mathlib.Core.Bool.{Bool, true, false}
 use Prim.Native.Nat.{ℕ, ◌<◌}
 use native.Mathlib.Omega.{arith}
 use Rattle.basics.specs.Bytes.{if}
-
-pub false_true : false ≡ true → ⊥
-false_true e = let w : ◌≡◌ {A = ℕ} 0 1 = cc in omega arith
-
--- both parts of a test that held
-pub both : (a b : Bool) → (a && b) ≡ true → (a ≡ true) × (b ≡ true)
-both true b e = (refl, e)
-both false b e = (e, absurd (false_true e))
 
 -- a fault that is 0 took the way that may be
 pub if_zero : (t : Bool) (x y : ℕ) → 0 < y → if t x y ≡ 0 → t ≡ true

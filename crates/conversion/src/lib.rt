@@ -5,8 +5,7 @@ ghost use Rattle.std.specs.Prelude.{◌≡◌};
 ghost use Rattle.conversion.specs.Conversion.{number_given, time_given, address_given};
 ghost use Rattle.mmc.specs.Times.{time_of, address_of};
 
-use mmc::refusals::number;
-use mmc::times::{AddressAnswer, Time, TimeAnswer, address_of, time_of};
+use mmc::times::{Time, address_of, time_of};
 use mmc::units::BlockAddress;
 
 // Writes the time of an address as minute, second and frame, and answers 0; or answers the refusal's number and writes nothing.
@@ -14,15 +13,12 @@ use mmc::units::BlockAddress;
 pub extern "C" fn conversion_time(address: i64, time: &mut [u8; 3]) -> u8
     ensures { (result ≡ number_given (time_of (record { 0 = address }))) × (time.new ≡ time_given (time_of (record { 0 = address })) time.old) }
 {
-    let answer = time_of(BlockAddress(address));
-    match answer {
-        TimeAnswer::At(t) => {
-            time[0] = t.minute;
-            time[1] = t.second;
-            time[2] = t.frame;
+    match time_of(BlockAddress(address)) {
+        Ok(t) => {
+            *time = [t.minute, t.second, t.frame];
             0
         }
-        TimeAnswer::Refused(r) => number(r),
+        Err(r) => u8::from(r),
     }
 }
 
@@ -31,17 +27,16 @@ pub extern "C" fn conversion_time(address: i64, time: &mut [u8; 3]) -> u8
 pub extern "C" fn conversion_address(minute: u8, second: u8, frame: u8, address: &mut i64) -> u8
     ensures { (result ≡ number_given (address_of (record { minute = minute; second = second; frame = frame }))) × (address.new ≡ address_given (address_of (record { minute = minute; second = second; frame = frame })) address.old) }
 {
-    let answer = address_of(Time {
-        minute: minute,
-        second: second,
-        frame: frame,
-    });
-    match answer {
-        AddressAnswer::At(a) => {
-            let z = a.0;
-            *address = z;
+    let time = Time {
+        minute,
+        second,
+        frame,
+    };
+    match address_of(time) {
+        Ok(a) => {
+            *address = a.0;
             0
         }
-        AddressAnswer::Refused(r) => number(r),
+        Err(r) => u8::from(r),
     }
 }

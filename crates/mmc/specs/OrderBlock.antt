@@ -1,9 +1,9 @@
 -- The order block: what is written of an order, and what a reader finds in 512 bytes.
-use Rattle.std.specs.Prelude.{◌≡◌, ℕ, zero, suc, ◌+◌, ◌/◌, ◌%◌, List, [], ◌∷◌, ◌++◌, Bool, true, ◌&&◌, get_or, take, drop, replicate, eqb, leb}
+use Rattle.std.specs.Prelude.{◌≡◌, ℕ, zero, suc, ◌+◌, ◌/◌, ◌%◌, List, [], ◌∷◌, ◌++◌, Bool, true, false, ◌&&◌, Result, Ok, Err, get_or, take, drop, replicate, eqb, leb}
 use Rattle.basics.specs.Bytes.{if, be32, bytes32, all_zero}
-use Rattle.mmc.specs.Refusals.{Outcome, pass, refuse, checked, value_or, Fills}
+use Rattle.mmc.specs.Refusals.{Outcome, pass, refuse, outcome_of, Fills}
 use Rattle.mmc.specs.Block.{sealed, block_read}
-use Rattle.mmc.specs.Order.{most_tracks, no_order, valid_order}
+use Rattle.mmc.specs.Order.{most_tracks, valid_order}
 use Rattle.mmc.specs.declared.order.Order.{Order}
 use Rattle.mmc.specs.declared.order.Track.{Track}
 use Rattle.mmc.specs.declared.order.Kind.{Kind}
@@ -12,8 +12,8 @@ use Rattle.mmc.specs.declared.order.Method.{Method}
 use Rattle.mmc.specs.declared.order.Method.TheVariants.{Tao, Sao}
 use Rattle.mmc.specs.declared.order.Recipe.{Recipe}
 use Rattle.mmc.specs.declared.order.Recipe.TheVariants.{Old, New}
-use Rattle.mmc.specs.declared.order_block.OrderRead.{OrderRead}
-use Rattle.mmc.specs.declared.refusals.Made.{Made}
+use Rattle.mmc.specs.declared.refusals.Refusal.{Refusal}
+use Rattle.mmc.specs.declared.refusals.Refusal.TheVariants.{FieldValue}
 
 -- "byte 1 the method, 1 TAO or 2 SAO"
 abbrev pub method_byte : Method → ℕ
@@ -97,6 +97,21 @@ unfoldable pub kinds_ok : ℕ → List ℕ → Bool
 kinds_ok zero b = true
 kinds_ok (suc k) b = leb (get_or b 0 0) 1 && kinds_ok k (drop 5 b)
 
+-- what a reader of fields comes to: the value where they are listed, else 3
+abbrev pub listed : {A : Type 0} → Bool → A → Result A Refusal
+listed true a = Ok a
+listed false a = Err FieldValue
+
+-- the method, the kind and the recipe of a byte, where it is listed
+abbrev pub listed_method : ℕ → Result Method Refusal
+listed_method n = listed (leb 1 n && leb n last_method) (method_of n)
+
+abbrev pub listed_kind : ℕ → Result Kind Refusal
+listed_kind n = listed (leb n 1) (kind_of n)
+
+abbrev pub listed_recipe : ℕ → Result Recipe Refusal
+listed_recipe n = listed (leb n last_recipe) (recipe_of n)
+
 -- the fields of a block, whatever they hold
 unfoldable pub fields_of : List ℕ → Order
 fields_of b =
@@ -128,12 +143,11 @@ unfoldable pub read_order : List ℕ → Outcome Order
 read_order b = block_read b (order_ok b) (fields_of b)
 
 -- what the writer promises: the block, and that it reads back to the order
-pub record WritesOrder (o : Order) (r : Made) (before after : List ℕ) : Type 0 where
+pub record WritesOrder (o : Order) (r : Result ℕ Refusal) (before after : List ℕ) : Type 0 where
   pub filled : Fills (order_block o) r before after
   pub reads_back : (b : List ℕ) → order_block o ≡ pass b → read_order b ≡ pass o
 
 -- what the reader promises: the order, and that the block is the one that is written of it
-pub record ReadsOrder (b : List ℕ) (r : OrderRead) : Type 0 where
-  pub answer : checked r.check r.order ≡ read_order b
-  pub order : r.order ≡ value_or no_order (read_order b)
+pub record ReadsOrder (b : List ℕ) (r : Result Order Refusal) : Type 0 where
+  pub answer : outcome_of r ≡ read_order b
   pub written : (o : Order) → read_order b ≡ pass o → order_block o ≡ pass b

@@ -1,12 +1,12 @@
 -- The mode data of MODE SELECT: "8 zero bytes, then a page of 52".
-use Rattle.std.specs.Prelude.{◌≡◌, ℕ, ◌+◌, List, [], ◌∷◌, ◌++◌, Bool, not, length, replicate}
+use Rattle.std.specs.Prelude.{◌≡◌, ℕ, ◌+◌, List, [], ◌∷◌, ◌++◌, Bool, not, Result, length, replicate}
 use Rattle.basics.specs.Bytes.{if, bytes16}
 use Rattle.mmc.specs.Refusals.{Outcome, pass, test, fault_of, unless, Fills}
 use Rattle.mmc.specs.Order.{valid_order, keeps_sao}
 use Rattle.mmc.specs.declared.order.Order.{Order}
 use Rattle.mmc.specs.declared.order.Kind.{Kind}
 use Rattle.mmc.specs.declared.order.Kind.TheVariants.{Audio, Data}
-use Rattle.mmc.specs.declared.refusals.Made.{Made}
+use Rattle.mmc.specs.declared.refusals.Refusal.{Refusal}
 use Rattle.mmc.specs.declared.order.Method.{Method}
 use Rattle.mmc.specs.declared.order.Method.TheVariants.{Tao, Sao}
 
@@ -60,6 +60,6 @@ abbrev pub mode_length : ℕ
 mode_length = 60
 
 -- what the maker promises: the mode data, and that they have the length that MODE SELECT bears
-pub record MakesModeData (o : Order) (k : Kind) (r : Made) (before after : List ℕ) : Type 0 where
+pub record MakesModeData (o : Order) (k : Kind) (r : Result ℕ Refusal) (before after : List ℕ) : Type 0 where
   pub filled : Fills (mode_data o k) r before after
   pub size : (b : List ℕ) → mode_data o k ≡ pass b → length b ≡ mode_length

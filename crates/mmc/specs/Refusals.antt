@@ -1,12 +1,8 @@
 -- The numbers a refusal bears, and what the answers that can be a refusal say.
-use Rattle.std.specs.Prelude.{◌≡◌, Bool, List, [], ◌∷◌, ◌++◌, ℕ, length, drop, leb, eqb}
+use Rattle.std.specs.Prelude.{◌≡◌, Bool, List, [], ◌∷◌, ◌++◌, ℕ, Result, Ok, Err, length, drop, leb, eqb}
 use Rattle.basics.specs.Bytes.{if}
 use Rattle.mmc.specs.declared.refusals.Refusal.{Refusal}
 use Rattle.mmc.specs.declared.refusals.Refusal.TheVariants.{BlockLength, BlockCheck, FieldValue, ReplyForm, Profile, DiscStatus, TrackInformation, MixedOrKept, ShortTrack, NoRoom, ShortBuffer, DriveFailed, JobEnded, NoCueSheet, OutOfRange, NotErasable, AudioInTao}
-use Rattle.mmc.specs.declared.refusals.Made.{Made}
-use Rattle.mmc.specs.declared.refusals.Made.TheVariants as M
-use Rattle.mmc.specs.declared.refusals.Check.{Check}
-use Rattle.mmc.specs.declared.refusals.Check.TheVariants as C
 
 -- what a routine comes to: a value, or the number of a refusal
 pub data Outcome (A : Type 0) : Type 0 where
@@ -46,20 +42,15 @@ abbrev pub fault_of : List Test → ℕ
 fault_of [] = 0
 fault_of (t ∷ ts) = if t.applies t.number (fault_of ts)
 
--- what a maker's answer says: how many bytes, or the number
-abbrev pub made_of : Made → Outcome ℕ
-made_of (M.Bytes n) = pass n
-made_of (M.Refused r) = refuse (number_of r)
+-- what an answer says: the value, or the number of the refusal
+abbrev pub outcome_of : {A : Type 0} → Result A Refusal → Outcome A
+outcome_of (Ok a) = pass a
+outcome_of (Err r) = refuse (number_of r)
 
 -- what a test's answer says: the number, 0 where it passed
-abbrev pub fault_in : Check → ℕ
-fault_in C.Passed = 0
-fault_in (C.Refused r) = number_of r
-
--- what a reader's answer says: the value beside the test, or the number
-abbrev pub checked : {A : Type 0} → Check → A → Outcome A
-checked C.Passed a = pass a
-checked (C.Refused r) a = refuse (number_of r)
+abbrev pub fault_in : {A : Type 0} → Result A Refusal → ℕ
+fault_in (Ok a) = 0
+fault_in (Err r) = number_of r
 
 -- the value, or what stands in its place
 abbrev pub value_or : {A : Type 0} → A → Outcome A → A
@@ -81,6 +72,6 @@ buffer_of (pass bytes) buffer = if (leb (length bytes) (length buffer)) (bytes +
 buffer_of (refuse n) buffer = buffer
 
 -- what every maker promises: of the bytes that it has to make, its answer, and the lent buffer before and after
-pub record Fills (bytes : Outcome (List ℕ)) (r : Made) (before after : List ℕ) : Type 0 where
-  pub answer : made_of r ≡ answer_of bytes before
+pub record Fills (bytes : Outcome (List ℕ)) (r : Result ℕ Refusal) (before after : List ℕ) : Type 0 where
+  pub answer : outcome_of r ≡ answer_of bytes before
   pub buffer : after ≡ buffer_of bytes before

@@ -1,11 +1,11 @@
 -- The reply block: what is written of a reply, and what a reader finds in 512 bytes.
-use Rattle.std.specs.Prelude.{◌≡◌, ℕ, ◌+◌, ◌-◌, List, ◌∷◌, ◌++◌, Bool, true, false, ◌&&◌, length, get_or, take, drop, replicate, eqb, leb}
+use Rattle.std.specs.Prelude.{◌≡◌, ℕ, ◌+◌, ◌-◌, List, ◌∷◌, ◌++◌, Bool, true, false, ◌&&◌, Result, Ok, Err, length, get_or, take, drop, replicate, eqb, leb}
 use Rattle.basics.specs.Bytes.{if, be16, bytes16, all_zero}
 use Rattle.mmc.specs.Refusals.{Outcome, pass, refuse, number_of, Fills}
 use Rattle.mmc.specs.Block.{sealed, block_read}
-use Rattle.mmc.specs.declared.reply_block.ReplyRead.{ReplyRead}
-use Rattle.mmc.specs.declared.reply_block.ReplyRead.TheVariants.{Good, Failed, Refused}
-use Rattle.mmc.specs.declared.refusals.Made.{Made}
+use Rattle.mmc.specs.declared.reply_block.Reply as R
+use Rattle.mmc.specs.declared.reply_block.Reply.TheVariants.{Good, Failed}
+use Rattle.mmc.specs.declared.refusals.Refusal.{Refusal}
 
 -- a good or failed mark with the drive's data
 pub record Reply : Type 0 where
@@ -59,18 +59,22 @@ reply_in b = record { good = eqb (get_or b 1 0) 0; bytes = take (data_length b) 
 unfoldable pub read_reply : List ℕ → Outcome Reply
 read_reply b = block_read b (reply_ok b) (reply_in b)
 
--- what a reader's answer says of the block: the mark and so many bytes from byte 4 on, or the number
-abbrev pub reply_found : List ℕ → ReplyRead → Outcome Reply
-reply_found b (Good n) = pass (record { good = true; bytes = take n (drop 4 b) })
-reply_found b (Failed n) = pass (record { good = false; bytes = take n (drop 4 b) })
-reply_found b (Refused r) = refuse (number_of r)
+-- what the code's reply says: the mark, and the data that it holds
+abbrev pub reply_said : R.Reply → Reply
+reply_said (Good s) = record { good = true; bytes = s.now }
+reply_said (Failed s) = record { good = false; bytes = s.now }
+
+-- what a reader's answer says: the reply, or the number
+abbrev pub reply_found : Result R.Reply Refusal → Outcome Reply
+reply_found (Ok x) = pass (reply_said x)
+reply_found (Err r) = refuse (number_of r)
 
 -- what the writer promises: the block, and that it reads back to the reply
-pub record WritesReply (x : Reply) (r : Made) (before after : List ℕ) : Type 0 where
+pub record WritesReply (x : Reply) (r : Result ℕ Refusal) (before after : List ℕ) : Type 0 where
   pub filled : Fills (reply_block x) r before after
   pub reads_back : (b : List ℕ) → reply_block x ≡ pass b → read_reply b ≡ pass x
 
 -- what the reader promises: the reply, and that the block is the one that is written of it
-pub record ReadsReply (b : List ℕ) (r : ReplyRead) : Type 0 where
-  pub answer : reply_found b r ≡ read_reply b
+pub record ReadsReply (b : List ℕ) (r : Result R.Reply Refusal) : Type 0 where
+  pub answer : reply_found r ≡ read_reply b
   pub written : (x : Reply) → read_reply b ≡ pass x → reply_block x ≡ pass b

@@ -1,7 +1,7 @@
 -- The cue sheet of a session at once: which orders have one, its bytes, and what a reader finds.
-use Rattle.std.specs.Prelude.{◌≡◌, ℕ, zero, suc, ◌+◌, ◌*◌, ◌-◌, ◌/◌, ◌%◌, ◌≤◌, ◌<◌, List, [], ◌∷◌, ◌++◌, map, Bool, false, not, ◌&&◌, pos, ◌+ℤ◌, length, get_or, take, drop, replicate, eqb, leb}
+use Rattle.std.specs.Prelude.{◌≡◌, ℕ, zero, suc, ◌+◌, ◌*◌, ◌-◌, ◌/◌, ◌%◌, ◌≤◌, ◌<◌, List, [], ◌∷◌, ◌++◌, map, Bool, false, not, ◌&&◌, Result, pos, ◌+ℤ◌, length, get_or, take, drop, replicate, eqb, leb}
 use Rattle.basics.specs.Bytes.{if, same_bytes}
-use Rattle.mmc.specs.Refusals.{Outcome, pass, refuse, test, fault_of, checked, value_or, unless, Fills}
+use Rattle.mmc.specs.Refusals.{Outcome, pass, refuse, test, fault_of, outcome_of, unless, Fills}
 use Rattle.mmc.specs.Order.{most_tracks, no_track, valid_order, is_sao, tracks_in, order_kind, blocks_of, mixed_or_kept, short_track, overlong}
 use Rattle.mmc.specs.Times.{first_address, last_address, lead_in_minute, time_at, frames_of, address_of}
 use Rattle.mmc.specs.declared.units.BlockAddress.{BlockAddress}
@@ -16,8 +16,7 @@ use Rattle.mmc.specs.declared.order.Kind.TheVariants.{Audio, Data}
 use Rattle.mmc.specs.declared.order.Method.TheVariants.{Sao}
 use Rattle.mmc.specs.declared.order.Recipe.TheVariants.{Old}
 use Rattle.mmc.specs.declared.sheet.Sheet.{Sheet}
-use Rattle.mmc.specs.declared.sheet.SheetRead.{SheetRead}
-use Rattle.mmc.specs.declared.refusals.Made.{Made}
+use Rattle.mmc.specs.declared.refusals.Refusal.{Refusal}
 
 -- ---- which orders have a sheet
 
@@ -167,10 +166,6 @@ is_sheet b = sheet_size (length b) && (eqb (sheet_fault (order_for (sheet_in b))
 unfoldable pub read_sheet : List ℕ → Outcome Sheet
 read_sheet b = if (is_sheet b) (pass (sheet_in b)) (refuse 14)
 
--- what stands where there is no sheet
-unfoldable pub no_sheet : Sheet
-no_sheet = record { kind = Audio; count = 0; lengths = replicate most_tracks no_length }
-
 -- kind and lengths of an order
 abbrev pub length_of : Track → BlockCount
 length_of t = t.length
@@ -219,7 +214,7 @@ starts_from at (t ∷ ts) = pass at ∷ starts_from (behind at t.length) ts
 
 -- what the maker promises: the sheet, the length that SEND CUE SHEET bears, that it reads back, that its times are in order, and that
 -- whoever turns them into addresses finds pause, tracks and lead-out where they were ordered
-pub record MakesSheet (o : Order) (r : Made) (before after : List ℕ) : Type 0 where
+pub record MakesSheet (o : Order) (r : Result ℕ Refusal) (before after : List ℕ) : Type 0 where
   pub filled : Fills (cue_sheet o) r before after
   pub size : (b : List ℕ) → cue_sheet o ≡ pass b → length b ≡ sheet_bytes o.count
   pub reads_back : (b : List ℕ) → cue_sheet o ≡ pass b → read_sheet b ≡ pass (sheet_for o)
@@ -231,8 +226,7 @@ pub record MakesSheet (o : Order) (r : Made) (before after : List ℕ) : Type 0 
 
 -- what the reader promises: kind and lengths, that the bytes are the sheet that is made of them, and "a sheet with a time of minute 90
 -- or more is 14", in whichever entry
-pub record ReadsSheet (b : List ℕ) (r : SheetRead) : Type 0 where
-  pub answer : checked r.check r.sheet ≡ read_sheet b
-  pub sheet : r.sheet ≡ value_or no_sheet (read_sheet b)
+pub record ReadsSheet (b : List ℕ) (r : Result Sheet Refusal) : Type 0 where
+  pub answer : outcome_of r ≡ read_sheet b
   pub made : (s : Sheet) → read_sheet b ≡ pass s → cue_sheet (order_for s) ≡ pass b
   pub late : (i : ℕ) → lead_in_minute ≤ minute_in i b → read_sheet b ≡ refuse 14

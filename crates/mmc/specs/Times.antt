@@ -1,16 +1,13 @@
 -- Block addresses and times, both ways, 75 frames a second, 60 seconds a minute: "minutes 90 to 99 stand for the addresses -45,150 to
 -- -151, and time in frames is address plus 450,150. Minutes 0 to 89 keep the old sum", address plus 150.
-use Rattle.std.specs.Prelude.{◌≡◌, ℕ, ◌+◌, ◌*◌, ◌/◌, ◌%◌, Bool, ◌&&◌, ℤ, pos, negsuc, ◌+ℤ◌, ◌-ℤ◌, nat_abs, leb}
+use Rattle.std.specs.Prelude.{◌≡◌, ℕ, ◌+◌, ◌*◌, ◌/◌, ◌%◌, Bool, ◌&&◌, ℤ, pos, negsuc, ◌+ℤ◌, ◌-ℤ◌, nat_abs, Result, leb}
 use Rattle.std.specs.Int.Signed.{le_z}
 use Rattle.basics.specs.Bytes.{if}
-use Rattle.mmc.specs.Refusals.{Outcome, pass, refuse, number_of}
+use Rattle.mmc.specs.Refusals.{Outcome, pass, refuse, outcome_of}
 use Rattle.mmc.specs.declared.units.BlockAddress.{BlockAddress}
 use Rattle.mmc.specs.declared.units.FrameCount.{FrameCount}
 use Rattle.mmc.specs.declared.times.Time.{Time}
-use Rattle.mmc.specs.declared.times.TimeAnswer.{TimeAnswer}
-use Rattle.mmc.specs.declared.times.TimeAnswer.TheVariants as T
-use Rattle.mmc.specs.declared.times.AddressAnswer.{AddressAnswer}
-use Rattle.mmc.specs.declared.times.AddressAnswer.TheVariants as A
+use Rattle.mmc.specs.declared.refusals.Refusal.{Refusal}
 
 -- the last address that has a time, 89:59:74, also the last for a lead-out
 abbrev pub last_address : ℕ
@@ -82,20 +79,11 @@ time_of a = if (has_time a) (pass (time_at a)) (refuse 15)
 unfoldable pub address_of : Time → Outcome BlockAddress
 address_of t = if (is_time t) (pass (address_at_time t)) (refuse 15)
 
--- what the answers say
-abbrev pub time_in : TimeAnswer → Outcome Time
-time_in (T.At t) = pass t
-time_in (T.Refused r) = refuse (number_of r)
-
-abbrev pub address_in : AddressAnswer → Outcome BlockAddress
-address_in (A.At a) = pass a
-address_in (A.Refused r) = refuse (number_of r)
-
 -- what the conversions promise: the time and that its address comes back; the address and that its time comes back
-pub record GivesTime (a : BlockAddress) (r : TimeAnswer) : Type 0 where
-  pub answer : time_in r ≡ time_of a
+pub record GivesTime (a : BlockAddress) (r : Result Time Refusal) : Type 0 where
+  pub answer : outcome_of r ≡ time_of a
   pub comes_back : (t : Time) → time_of a ≡ pass t → address_of t ≡ pass a
 
-pub record GivesAddress (t : Time) (r : AddressAnswer) : Type 0 where
-  pub answer : address_in r ≡ address_of t
+pub record GivesAddress (t : Time) (r : Result BlockAddress Refusal) : Type 0 where
+  pub answer : outcome_of r ≡ address_of t
   pub comes_back : (a : BlockAddress) → address_of t ≡ pass a → time_of a ≡ pass t

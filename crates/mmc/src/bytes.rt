@@ -3,13 +3,13 @@ ghost use Rattle.std.specs.Prelude.{◌≡◌, ◌+◌, ◌≤◌, length, get_o
 ghost use Rattle.basics.specs.Bytes.{if, be16, be32, sum_of, all_zero, same_bytes, put_at};
 ghost use Rattle.mmc.specs.Refusals.{pass, Fills};
 
-use crate::refusals::{Made, Refusal};
+use crate::refusals::Refusal;
 
 // The byte at i as a number, 0 past the end.
 pub fn byte_at(b: &[u8], i: usize) -> u32
     ensures { (result ≡ get_or b.now i 0) × (result ≤ 255) }
 {
-    if i < b.len() { b[i] as u32 } else { 0 }
+    b.get(i).map_or(0, |x| *x as u32)
 }
 
 // The number in the first two bytes.
@@ -20,6 +20,7 @@ pub fn number16(b: &[u8]) -> u32
 }
 
 // The number in the first four bytes.
+#[tactic(auto, unfolding(basics::specs::Bytes::be32))]
 pub fn number32(b: &[u8]) -> u32
     ensures { result ≡ be32 b.now }
 {
@@ -38,13 +39,7 @@ pub(crate) fn byte_sum(s: &[u8]) -> u32
     requires { length s.now ≤ 512 }
     ensures { result ≡ sum_of s.now }
 {
-    let mut sum: u32 = 0;
-    let mut i: usize = 0;
-    while i < s.len() {
-        sum = sum + s[i] as u32;
-        i = i + 1;
-    }
-    sum
+    s.iter().map(|x| *x as u32).sum()
 }
 
 // Whether every byte is 0. It looks at all of them: a loop that ends at the first other byte can't take many bytes at a time.
@@ -52,53 +47,38 @@ pub(crate) fn all_zero(s: &[u8]) -> bool
     ensures { result ≡ all_zero s.now }
 {
     let mut zero = true;
-    let mut i: usize = 0;
-    while i < s.len() {
-        if s[i] != 0 {
+    for x in s {
+        if *x != 0 {
             zero = false;
         }
-        i = i + 1;
     }
     zero
 }
 
 // Whether two runs of bytes are equal.
+#[tactic(auto, using(basics::proofs::Bytes::equal_is))]
 pub fn same(s: &[u8], t: &[u8]) -> bool
     ensures { result ≡ same_bytes s.now t.now }
 {
-    if s.len() != t.len() {
-        return false;
-    }
-    let mut i: usize = 0;
-    while i < s.len() {
-        if s[i] != t[i] {
-            return false;
-        }
-        i = i + 1;
-    }
-    true
+    s == t
 }
 
 // Writes s at the index at.
+#[tactic(auto, using(basics::proofs::Bytes::part_is))]
 pub(crate) fn put(out: &mut [u8], at: usize, s: &[u8])
     requires { at + length s.now ≤ length out.old }
     ensures { out.new ≡ put_at out.old at s.now }
 {
-    let mut i: usize = 0;
-    while i < s.len() {
-        out[at + i] = s[i];
-        i = i + 1;
-    }
+    out[at..at + s.len()].copy_from_slice(s);
 }
 
 // The whole answer s goes to the start of a lent buffer, or none of it does.
-pub fn fill(s: &[u8], out: &mut [u8]) -> Made
+pub fn fill(s: &[u8], out: &mut [u8]) -> Result<usize, Refusal>
     ensures { Fills (pass s.now) result out.old out.new }
 {
-    let n = s.len();
-    if out.len() < n {
-        return Made::Refused(Refusal::ShortBuffer);
+    if out.len() < s.len() {
+        return Err(Refusal::ShortBuffer);
     }
     put(out, 0, s);
-    Made::Bytes(n)
+    Ok(s.len())
 }

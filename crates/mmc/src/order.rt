@@ -1,31 +1,31 @@
 // An order of tracks, and what is judged of it.
-ghost use Rattle.std.specs.Prelude.{◌≡◌, ◌≤◌, ◌<◌, ◌^◌, min, length, drop};
-ghost use Rattle.mmc.specs.Order.{most_tracks, no_track, is_none, all_none, no_order, new_sao, valid_order, tracks_in, same_kind, is_sao, order_kind, all_kind, all_long, blocks_of, keeps_sao, mixed_or_kept, overlong};
+ghost use Rattle.std.specs.Prelude.{◌≡◌, ◌≤◌, ◌<◌, ◌^◌, length, drop};
+ghost use Rattle.mmc.specs.Order.{most_tracks, all_none, no_order, new_sao, valid_order, tracks_in, order_kind, all_kind, all_long, blocks_of, keeps_sao, mixes_sao, mixed_or_kept, overlong};
 
 use crate::times::LAST_ADDRESS;
 use crate::units::{BlockCount, BlockSum};
 
 // Track at once, or session at once.
-#[derive(Clone, Copy)]
+#[derive(Clone, Copy, Debug, PartialEq, Eq)]
 pub enum Method {
     Tao,
     Sao,
 }
 
 // How a track at once is closed: by CLOSE TRACK SESSION function 1 after SYNCHRONIZE CACHE, or by SYNCHRONIZE CACHE alone.
-#[derive(Clone, Copy)]
+#[derive(Clone, Copy, Debug, PartialEq, Eq)]
 pub enum Recipe {
     Old,
     New,
 }
 
-#[derive(Clone, Copy)]
+#[derive(Clone, Copy, Debug, PartialEq, Eq)]
 pub enum Kind {
     Audio,
     Data,
 }
 
-#[derive(Clone, Copy)]
+#[derive(Clone, Copy, Debug, PartialEq, Eq)]
 pub struct Track {
     pub kind: Kind,
     pub length: BlockCount,
@@ -51,27 +51,22 @@ pub const MOST_TRACKS: u8 = 99;
 pub const ROWS: usize = MOST_TRACKS as usize;
 
 // A track has so many blocks at least.
-const LEAST_BLOCKS: u64 = 300;
+const LEAST_BLOCKS: u32 = 300;
 
 // The lead-out stands at this address at most.
 pub const LAST_LEAD_OUT: u64 = LAST_ADDRESS as u64;
 
 // What stands where there is no track.
-pub(crate) fn no_track() -> Track
-    ensures { result ≡ no_track }
-{
-    Track {
-        kind: Kind::Audio,
-        length: BlockCount(0),
-    }
-}
+pub const NO_TRACK: Track = Track {
+    kind: Kind::Audio,
+    length: BlockCount(0),
+};
 
 // What stands where there is no order.
+#[tactic(auto, unfolding(crate::specs::Order::no_order))]
 pub fn no_order() -> Order
     ensures { result ≡ no_order }
 {
-    let none = no_track();
-    let tracks = [none; ROWS];
     Order {
         method: Method::Tao,
         keep: false,
@@ -80,207 +75,126 @@ pub fn no_order() -> Order
         erase: false,
         recipe: Recipe::Old,
         count: 0,
-        tracks: tracks,
+        tracks: [NO_TRACK; ROWS],
     }
 }
 
-// Whether a row holds no track.
-fn is_none(t: Track) -> bool
-    ensures { result ≡ is_none t }
+// Whether each of the tracks is none.
+fn all_none(tracks: &[Track]) -> bool
+    ensures { result ≡ all_none tracks.now }
 {
-    let kind = t.kind;
-    match kind {
-        Kind::Audio => t.length.0 == 0,
-        Kind::Data => false,
+    tracks.iter().all(|t| *t == NO_TRACK)
+}
+
+// The sum of the lengths of the tracks of an order.
+fn blocks_of(tracks: &[Track]) -> u64
+    requires { length tracks.now ≤ most_tracks }
+    ensures { (result ≡ blocks_of tracks.now) × (result < 2 ^ 40) }
+{
+    tracks.iter().map(|t| t.length.0 as u64).sum()
+}
+
+impl Order {
+    // The ordered tracks, at most 99 in any case.
+    pub fn ordered(&self) -> &[Track]
+        ensures { (result.now ≡ tracks_in self.now) × (length result.now ≤ most_tracks) }
+    {
+        &self.tracks[..ROWS.min(self.count as usize)]
     }
-}
 
-// Whether no track stands past the order's count.
-fn rest_none(o: Order) -> bool
-    requires { o.count ≤ most_tracks }
-    ensures { result ≡ all_none (drop o.count o.tracks) }
-{
-    let tracks = o.tracks;
-    let mut i = o.count as usize;
-    while i < ROWS {
-        if !is_none(tracks[i]) {
-            return false;
-        }
-        i = i + 1;
+    // The ordered tracks after the first so many.
+    fn ordered_after(&self, first: usize) -> &[Track]
+        ensures { (result.now ≡ drop first (tracks_in self.now)) × (length result.now ≤ most_tracks) }
+    {
+        let tracks = self.ordered();
+        &tracks[tracks.len().min(first)..]
     }
-    true
-}
 
-// Whether a session at once is ordered by the new recipe.
-fn new_sao(o: Order) -> bool
-    ensures { result ≡ new_sao o }
-{
-    let m = o.method;
-    let q = o.recipe;
-    match m {
-        Method::Tao => false,
-        Method::Sao => match q {
-            Recipe::Old => false,
-            Recipe::New => true,
-        },
+    // Whether no track stands past the order's count.
+    fn rest_none(&self) -> bool
+        requires { self.now.count ≤ most_tracks }
+        ensures { result ≡ all_none (drop self.now.count self.now.tracks) }
+    {
+        all_none(&self.tracks[self.count as usize..])
     }
-}
 
-// Whether an order block can hold the order: 3 where not.
-pub fn is_valid(o: Order) -> bool
-    ensures { result ≡ valid_order o }
-{
-    let count = o.count;
-    if count < 1 {
-        return false;
+    // Whether a session at once is ordered by the new recipe.
+    fn new_sao(&self) -> bool
+        ensures { result ≡ new_sao self.now }
+    {
+        self.method == Method::Sao && self.recipe == Recipe::New
     }
-    if MOST_TRACKS < count {
-        return false;
+
+    // Whether an order block can hold the order: 3 where not.
+    #[tactic(auto, unfolding(crate::specs::Order::valid_order))]
+    pub fn is_valid(&self) -> bool
+        ensures { result ≡ valid_order self.now }
+    {
+        1 <= self.count && (self.count <= MOST_TRACKS && (self.rest_none() && !self.new_sao()))
     }
-    if !rest_none(o) {
-        return false;
+
+    // The first track's kind.
+    pub(crate) fn kind(&self) -> Kind
+        ensures { result ≡ order_kind self.now }
+    {
+        self.tracks[0].kind
     }
-    !new_sao(o)
-}
 
-// Whether the method is session at once.
-pub fn is_sao(m: Method) -> bool
-    ensures { result ≡ is_sao m }
-{
-    match m {
-        Method::Tao => false,
-        Method::Sao => true,
+    // Whether all tracks are of a kind.
+    pub fn all_kind(&self, kind: Kind) -> bool
+        ensures { result ≡ all_kind kind (tracks_in self.now) }
+    {
+        self.ordered().iter().all(|t| kind == t.kind)
     }
-}
 
-fn same_kind(a: Kind, b: Kind) -> bool
-    ensures { result ≡ same_kind a b }
-{
-    match a {
-        Kind::Audio => match b {
-            Kind::Audio => true,
-            Kind::Data => false,
-        },
-        Kind::Data => match b {
-            Kind::Audio => false,
-            Kind::Data => true,
-        },
+    // Whether every track has the least number of blocks or more.
+    pub fn all_long(&self) -> bool
+        ensures { result ≡ all_long (tracks_in self.now) }
+    {
+        self.ordered().iter().all(|t| LEAST_BLOCKS <= t.length.0)
     }
-}
 
-fn track_kind(t: Track) -> Kind
-    ensures { result ≡ t.kind }
-{
-    t.kind
-}
-
-pub(crate) fn track_blocks(t: Track) -> u64
-    ensures { (result ≡ t.length.0) × (result < 4294967296) }
-{
-    t.length.0 as u64
-}
-
-// The first track's kind.
-pub(crate) fn order_kind(o: Order) -> Kind
-    ensures { result ≡ order_kind o }
-{
-    let tracks = o.tracks;
-    track_kind(tracks[0])
-}
-
-// How many tracks there are, at most 99 in any case.
-pub(crate) fn track_count(o: Order) -> usize
-    ensures { result ≡ min o.count most_tracks }
-{
-    let n = o.count as usize;
-    if ROWS < n { ROWS } else { n }
-}
-
-// Whether all tracks are of a kind.
-pub fn all_kind(o: Order, kind: Kind) -> bool
-    ensures { result ≡ all_kind kind (tracks_in o) }
-{
-    let n = track_count(o);
-    let tracks = o.tracks;
-    let mut i: usize = 0;
-    while i < n {
-        if !same_kind(kind, track_kind(tracks[i])) {
-            return false;
-        }
-        i = i + 1;
+    // The sum S of the lengths of the tracks after the first so many.
+    pub fn blocks_after(&self, first: usize) -> BlockSum
+        ensures { (result.0 ≡ blocks_of (drop first (tracks_in self.now))) × (result.0 < 2 ^ 40) }
+    {
+        BlockSum(blocks_of(self.ordered_after(first)))
     }
-    true
-}
 
-// Whether every track has the least number of blocks or more.
-pub fn all_long(o: Order) -> bool
-    ensures { result ≡ all_long (tracks_in o) }
-{
-    let n = track_count(o);
-    let tracks = o.tracks;
-    let mut i: usize = 0;
-    while i < n {
-        if track_blocks(tracks[i]) < LEAST_BLOCKS {
-            return false;
-        }
-        i = i + 1;
+    // How many tracks there are after the first so many.
+    pub fn tracks_after(&self, first: usize) -> usize
+        ensures { (result ≡ length (drop first (tracks_in self.now))) × (result ≤ most_tracks) }
+    {
+        self.ordered_after(first).len()
     }
-    true
-}
 
-// The sum S of the lengths of the tracks after the first so many.
-pub fn blocks_after(o: Order, first: usize) -> BlockSum
-    ensures { (result.0 ≡ blocks_of (drop first (tracks_in o))) × (result.0 < 2 ^ 40) }
-{
-    let n = track_count(o);
-    let tracks = o.tracks;
-    let mut sum: u64 = 0;
-    let mut i: usize = first;
-    while i < n {
-        sum = sum + track_blocks(tracks[i]);
-        i = i + 1;
+    // Whether a session at once is to be kept appendable.
+    pub(crate) fn keeps_sao(&self) -> bool
+        ensures { result ≡ keeps_sao self.now }
+    {
+        self.method == Method::Sao && self.keep
     }
-    BlockSum(sum)
-}
 
-// How many tracks there are after the first so many.
-pub fn tracks_after(o: Order, first: usize) -> usize
-    ensures { (result ≡ length (drop first (tracks_in o))) × (result ≤ most_tracks) }
-{
-    let n = track_count(o);
-    if first < n { n - first } else { 0 }
-}
-
-// Whether a session at once is to be kept appendable.
-pub(crate) fn keeps_sao(o: Order) -> bool
-    ensures { result ≡ keeps_sao o }
-{
-    let m = o.method;
-    match m {
-        Method::Tao => false,
-        Method::Sao => o.keep,
+    // Whether a session at once is of mixed kinds.
+    fn mixes_sao(&self) -> bool
+        ensures { result ≡ mixes_sao self.now }
+    {
+        self.method == Method::Sao && !self.all_kind(self.kind())
     }
-}
 
-// 8: a session at once of mixed kinds, or to be kept appendable.
-pub fn mixed_or_kept(o: Order) -> bool
-    ensures { result ≡ mixed_or_kept o }
-{
-    let m = o.method;
-    match m {
-        Method::Tao => false,
-        Method::Sao => {
-            if o.keep {
-                return true;
-            }
-            !all_kind(o, order_kind(o))
-        }
+    // 8: a session at once of mixed kinds, or to be kept appendable.
+    #[tactic(auto, unfolding(crate::specs::Order::mixed_or_kept))]
+    pub fn mixed_or_kept(&self) -> bool
+        ensures { result ≡ mixed_or_kept self.now }
+    {
+        self.keeps_sao() || self.mixes_sao()
     }
-}
 
-// 10 where the first track starts at address 0: the lead-out would stand past the last address for one.
-pub(crate) fn is_overlong(o: Order) -> bool
-    ensures { result ≡ overlong o }
-{
-    LAST_LEAD_OUT < blocks_after(o, 0).0
+    // 10 where the first track starts at address 0: the lead-out would stand past the last address for one.
+    #[tactic(auto, unfolding(crate::specs::Order::overlong))]
+    pub(crate) fn is_overlong(&self) -> bool
+        ensures { result ≡ overlong self.now }
+    {
+        LAST_LEAD_OUT < self.blocks_after(0).0
+    }
 }

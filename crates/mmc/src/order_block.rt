@@ -1,273 +1,197 @@
 // The order block: 512 bytes that hold an order.
 ghost use Rattle.std.specs.Prelude.{◌≡◌, ◌++◌, ◌+◌, ◌≤◌, length, drop};
-ghost use Rattle.mmc.specs.Block.{block_fault};
 ghost use Rattle.basics.specs.Bytes.{put_at};
 ghost use Rattle.mmc.specs.Bench.{LayoutSheets, LayoutCases};
 ghost use Rattle.mmc.specs.Order.{most_tracks};
-ghost use Rattle.mmc.specs.OrderBlock.{method_of, method_byte, kind_of, kind_byte, flags_byte, recipe_of, recipe_byte, head_ok, rest_ok, kinds_ok, track_of, tracks_of, fields_of, order_ok, row, rows, order_body, ReadsOrder, WritesOrder};
+ghost use Rattle.mmc.specs.OrderBlock.{method_byte, kind_byte, flags_byte, recipe_byte, listed, listed_method, listed_kind, listed_recipe, kinds_ok, track_of, tracks_of, fields_of, order_ok, row, rows, order_body, ReadsOrder, WritesOrder};
 
-use crate::block::{check_block, put_check};
+use crate::block::{BLOCK_BYTES, check_first, put_check, whole};
 use crate::bytes::{all_zero, fill, flag, number32, put};
-use crate::order::{Kind, Method, Order, ROWS, Recipe, Track, is_valid, no_order, no_track};
-use crate::refusals::{Check, Made, Refusal};
+use crate::order::{Kind, Method, NO_TRACK, Order, ROWS, Recipe, Track};
+use crate::refusals::Refusal;
 use crate::units::BlockCount;
 
-// The order where the check passed; where it did not, no order.
-#[derive(Clone, Copy)]
-pub struct OrderRead {
-    pub check: Check,
-    pub order: Order,
-}
+// The flags with all four bits.
+const LAST_FLAGS: u8 = 15;
 
-fn method_of(n: u8) -> Method
-    ensures { result ≡ method_of n }
-{
-    if n == 1 { Method::Tao } else { Method::Sao }
-}
+// Byte 1 of the block.
+impl From<Method> for u8 {
+    ghost from_gives = { λ m n. n ≡ method_byte m };
 
-fn method_byte(m: Method) -> u8
-    ensures { result ≡ method_byte m }
-{
-    match m {
-        Method::Tao => 1,
-        Method::Sao => 2,
-    }
-}
-
-fn kind_of(n: u8) -> Kind
-    ensures { result ≡ kind_of n }
-{
-    if n == 0 { Kind::Audio } else { Kind::Data }
-}
-
-fn kind_byte(k: Kind) -> u8
-    ensures { result ≡ kind_byte k }
-{
-    match k {
-        Kind::Audio => 0,
-        Kind::Data => 1,
-    }
-}
-
-fn flags_byte(keep: bool, protect: bool, immed: bool, erase: bool) -> u8
-    ensures { result ≡ flags_byte keep protect immed erase }
-{
-    flag(keep, 1) + flag(protect, 2) + flag(immed, 4) + flag(erase, 8)
-}
-
-fn recipe_of(n: u8) -> Recipe
-    ensures { result ≡ recipe_of n }
-{
-    if n == 0 { Recipe::Old } else { Recipe::New }
-}
-
-fn recipe_byte(q: Recipe) -> u8
-    ensures { result ≡ recipe_byte q }
-{
-    match q {
-        Recipe::Old => 0,
-        Recipe::New => 1,
-    }
-}
-
-// The track whose row stands at the index at.
-fn track_of(b: &[u8], at: usize) -> Track
-    requires { at + 5 ≤ length b.now }
-    ensures { result ≡ track_of (drop at b.now) }
-{
-    let kind = kind_of(b[at]);
-    Track {
-        kind: kind,
-        length: BlockCount(number32(&b[at + 1..])),
-    }
-}
-
-// The tracks of all 99 rows.
-fn tracks_of(b: &[u8]) -> [Track; ROWS]
-    requires { length b.now ≡ 512 }
-    ensures { result ≡ tracks_of most_tracks (drop 4 b.now) }
-{
-    let none = no_track();
-    let mut tracks = [none; ROWS];
-    let mut i: usize = 0;
-    while i < ROWS {
-        tracks[i] = track_of(b, 4 + 5 * i);
-        i = i + 1;
-    }
-    tracks
-}
-
-// Whether each row's first byte is a kind's.
-fn kinds_ok(b: &[u8]) -> bool
-    requires { length b.now ≡ 512 }
-    ensures { result ≡ kinds_ok most_tracks (drop 4 b.now) }
-{
-    let mut i: usize = 0;
-    while i < ROWS {
-        if 1 < b[4 + 5 * i] {
-            return false;
+    fn from(m: Method) -> u8 {
+        match m {
+            Method::Tao => 1,
+            Method::Sao => 2,
         }
-        i = i + 1;
     }
-    true
 }
 
-// The fields of a block, whatever they hold.
-fn fields_of(b: &[u8]) -> Order
-    requires { length b.now ≡ 512 }
-    ensures { result ≡ fields_of b.now }
+impl TryFrom<u8> for Method {
+    type Error = Refusal;
+
+    ghost try_from_gives = { λ n r. r ≡ listed_method n };
+
+    #[tactic(auto, unfolding(crate::specs::OrderBlock::method_of))]
+    fn try_from(n: u8) -> Result<Method, Refusal> {
+        match n {
+            1 => Ok(Method::Tao),
+            2 => Ok(Method::Sao),
+            _ => Err(Refusal::FieldValue),
+        }
+    }
+}
+
+// The first byte of a row.
+impl From<Kind> for u8 {
+    ghost from_gives = { λ k n. n ≡ kind_byte k };
+
+    fn from(k: Kind) -> u8 {
+        match k {
+            Kind::Audio => 0,
+            Kind::Data => 1,
+        }
+    }
+}
+
+impl TryFrom<u8> for Kind {
+    type Error = Refusal;
+
+    ghost try_from_gives = { λ n r. r ≡ listed_kind n };
+
+    fn try_from(n: u8) -> Result<Kind, Refusal> {
+        match n {
+            0 => Ok(Kind::Audio),
+            1 => Ok(Kind::Data),
+            _ => Err(Refusal::FieldValue),
+        }
+    }
+}
+
+// Byte 499 of the block.
+impl From<Recipe> for u8 {
+    ghost from_gives = { λ q n. n ≡ recipe_byte q };
+
+    fn from(q: Recipe) -> u8 {
+        match q {
+            Recipe::Old => 0,
+            Recipe::New => 1,
+        }
+    }
+}
+
+impl TryFrom<u8> for Recipe {
+    type Error = Refusal;
+
+    ghost try_from_gives = { λ n r. r ≡ listed_recipe n };
+
+    fn try_from(n: u8) -> Result<Recipe, Refusal> {
+        match n {
+            0 => Ok(Recipe::Old),
+            1 => Ok(Recipe::New),
+            _ => Err(Refusal::FieldValue),
+        }
+    }
+}
+
+impl Order {
+    // Byte 2 of the block.
+    pub fn flags(&self) -> u8
+        ensures { result ≡ flags_byte self.now.keep self.now.protect self.now.immed self.now.erase }
+    {
+        flag(self.keep, 1) + flag(self.protect, 2) + flag(self.immed, 4) + flag(self.erase, 8)
+    }
+}
+
+// The track of a row, at the start of the bytes: 3 where its kind is not listed.
+fn track_of(b: &[u8]) -> Result<Track, Refusal>
+    requires { 5 ≤ length b.now }
+    ensures { result ≡ listed (kinds_ok 1 b.now) (track_of b.now) }
 {
-    let method = method_of(b[1]);
+    Ok(Track {
+        kind: Kind::try_from(b[0])?,
+        length: BlockCount(number32(&b[1..])),
+    })
+}
+
+// The tracks of all 99 rows: 3 where a kind is not listed.
+fn tracks_of(b: &[u8; BLOCK_BYTES]) -> Result<[Track; ROWS], Refusal>
+    ensures { result ≡ listed (kinds_ok most_tracks (drop 4 b.now)) (tracks_of most_tracks (drop 4 b.now)) }
+{
+    let mut tracks = [NO_TRACK; ROWS];
+    for (i, t) in tracks.iter_mut().enumerate() {
+        *t = track_of(&b[4 + 5 * i..])?;
+    }
+    Ok(tracks)
+}
+
+// The order in a block whose check is right: 3 where a field's value is not listed, or where no block can hold the order.
+fn read_fields(b: &[u8; BLOCK_BYTES]) -> Result<Order, Refusal>
+    ensures { result ≡ listed (order_ok b.now) (fields_of b.now) }
+{
     let flags = b[2];
-    let count = b[3];
-    let recipe = recipe_of(b[499]);
-    let tracks = tracks_of(b);
-    Order {
-        method: method,
+    if b[0] != 1 || LAST_FLAGS < flags || !all_zero(&b[500..510]) {
+        return Err(Refusal::FieldValue);
+    }
+    let order = Order {
+        method: Method::try_from(b[1])?,
         keep: flags % 2 == 1,
         protect: flags / 2 % 2 == 1,
         immed: flags / 4 % 2 == 1,
         erase: flags / 8 % 2 == 1,
-        recipe: recipe,
-        count: count,
-        tracks: tracks,
+        recipe: Recipe::try_from(b[499])?,
+        count: b[3],
+        tracks: tracks_of(b)?,
+    };
+    if !order.is_valid() {
+        return Err(Refusal::FieldValue);
     }
-}
-
-// Whether the bytes before the track count hold listed values.
-fn head_ok(b: &[u8]) -> bool
-    requires { length b.now ≡ 512 }
-    ensures { result ≡ head_ok b.now }
-{
-    let method = b[1];
-    let flags = b[2];
-    if b[0] != 1 {
-        return false;
-    }
-    if method < 1 {
-        return false;
-    }
-    if 2 < method {
-        return false;
-    }
-    if 15 < flags {
-        return false;
-    }
-    true
-}
-
-// Whether the recipe's byte holds a listed value, and all behind it is 0.
-fn rest_ok(b: &[u8]) -> bool
-    requires { length b.now ≡ 512 }
-    ensures { result ≡ rest_ok b.now }
-{
-    if 1 < b[499] {
-        return false;
-    }
-    all_zero(&b[500..510])
-}
-
-// Whether every field holds a listed value, and all else is 0.
-fn order_ok(b: &[u8]) -> bool
-    requires { length b.now ≡ 512 }
-    ensures { result ≡ order_ok b.now }
-{
-    if !head_ok(b) {
-        return false;
-    }
-    if !kinds_ok(b) {
-        return false;
-    }
-    if !is_valid(fields_of(b)) {
-        return false;
-    }
-    rest_ok(b)
-}
-
-// An order block whose length and check are right: 3, or the order.
-fn read_fields(b: &[u8]) -> OrderRead
-    requires { block_fault b.now ≡ 0 }
-    ensures { ReadsOrder b.now result }
-{
-    if !order_ok(b) {
-        return OrderRead {
-            check: Check::Refused(Refusal::FieldValue),
-            order: no_order(),
-        };
-    }
-    OrderRead {
-        check: Check::Passed,
-        order: fields_of(b),
-    }
+    Ok(order)
 }
 
 // Reads an order block: 1, 2 and 3.
-pub fn read_order(b: &[u8]) -> OrderRead
+pub fn read_order(b: &[u8]) -> Result<Order, Refusal>
     ensures { ReadsOrder b.now result }
 {
-    let check = check_block(b);
-    match check {
-        Check::Refused(r) => OrderRead {
-            check: Check::Refused(r),
-            order: no_order(),
-        },
-        Check::Passed => read_fields(b),
-    }
+    let block = whole(b)?;
+    check_first(block, 510)?;
+    read_fields(block)
 }
 
+// The row of a track.
 fn row_of(t: Track) -> [u8; 5]
     ensures { result ≡ row t }
 {
-    let kind = t.kind;
-    let blocks = t.length.0;
-    [
-        kind_byte(kind),
-        (blocks / 16777216) as u8,
-        (blocks / 65536 % 256) as u8,
-        (blocks / 256 % 256) as u8,
-        (blocks % 256) as u8,
-    ]
+    let [a, b, c, d] = t.length.0.to_be_bytes();
+    [t.kind.into(), a, b, c, d]
 }
 
 // Writes the 99 rows of an order block.
-fn put_rows(o: Order, out: &mut [u8])
-    requires { 499 ≤ length out.old }
-    ensures { out.new ≡ put_at out.old 4 (rows o.tracks) }
+fn put_rows(o: &Order, out: &mut [u8; BLOCK_BYTES])
+    ensures { out.new ≡ put_at out.old 4 (rows o.now.tracks) }
 {
-    let tracks = o.tracks;
-    let mut i: usize = 0;
-    while i < ROWS {
-        let one = row_of(tracks[i]);
-        put(out, 4 + 5 * i, &one);
-        i = i + 1;
+    for (i, t) in o.tracks.iter().enumerate() {
+        put(out, 4 + 5 * i, &row_of(*t));
     }
 }
 
 // Writes bytes 0 to 509 of an order block.
-fn put_body(o: Order, out: &mut [u8])
-    requires { 510 ≤ length out.old }
-    ensures { out.new ≡ order_body o ++ drop 510 out.old }
+fn put_body(o: &Order, out: &mut [u8; BLOCK_BYTES])
+    ensures { out.new ≡ order_body o.now ++ drop 510 out.old }
 {
-    let m = o.method;
-    let method = method_byte(m);
-    let flags = flags_byte(o.keep, o.protect, o.immed, o.erase);
-    let head = [1u8, method, flags, o.count];
-    put(out, 0, &head);
+    put(out, 0, &[1, o.method.into(), o.flags(), o.count]);
     put_rows(o, out);
-    let q = o.recipe;
-    let rest = [recipe_byte(q), 0, 0, 0, 0, 0, 0, 0, 0, 0, 0];
-    put(out, 499, &rest);
+    put(out, 499, &[o.recipe.into(), 0, 0, 0, 0, 0, 0, 0, 0, 0, 0]);
 }
 
 // Writes an order block: 3, then 11. Its contract also keeps the bench's sheets on the layouts, which hold of the definitions.
-pub fn write_order(o: Order, out: &mut [u8]) -> Made
+pub fn write_order(o: Order, out: &mut [u8]) -> Result<usize, Refusal>
     ensures { (WritesOrder o result out.old out.new) × LayoutSheets × LayoutCases }
 {
-    if !is_valid(o) {
-        return Made::Refused(Refusal::FieldValue);
+    if !o.is_valid() {
+        return Err(Refusal::FieldValue);
     }
-    let mut block = [0u8; 512];
-    put_body(o, &mut block);
+    let mut block = [0u8; BLOCK_BYTES];
+    put_body(&o, &mut block);
     put_check(&mut block);
     fill(&block, out)
 }

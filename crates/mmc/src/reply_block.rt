@@ -1,39 +1,35 @@
 // The reply block: 512 bytes that hold a good or failed mark and the drive's data.
 ghost use Rattle.std.specs.Prelude.{◌≡◌, ◌++◌, ◌+◌, ◌-◌, ◌≤◌, min, length, take, drop};
-ghost use Rattle.mmc.specs.Block.{block_fault};
 ghost use Rattle.basics.specs.Bytes.{if, all_zero, part_of};
-ghost use Rattle.mmc.specs.ReplyBlock.{reply_of, most_data, data_length, reply_ok, status_byte, reply_head, ReadsReply, WritesReply};
+ghost use Rattle.mmc.specs.Refusals.{pass, refuse};
+ghost use Rattle.mmc.specs.ReplyBlock.{reply_in, most_data, data_length, reply_ok, status_byte, reply_said, reply_found, reply_head, ReadsReply, WritesReply};
 
-use crate::block::{check_first, put_check};
+use crate::block::{BLOCK_BYTES, check_first, put_check, whole};
 use crate::bytes::{all_zero, fill, number16, put};
-use crate::refusals::{Check, Made, Refusal};
+use crate::refusals::Refusal;
 
-// A reply: good or failed, with so many bytes of data from byte 4 of its block on.
+// What the drive answered: good or failed, with its data.
 #[derive(Clone, Copy)]
-pub enum ReplyRead {
-    Good(usize),
-    Failed(usize),
-    Refused(Refusal),
+pub enum Reply<'a> {
+    Good(&'a [u8]),
+    Failed(&'a [u8]),
 }
 
 // A reply block holds so many bytes of data at most.
 const MOST_DATA: usize = 506;
 
 // How many bytes of data a block says it holds.
-fn data_length(b: &[u8]) -> usize
-    requires { length b.now ≡ 512 }
+fn data_length(b: &[u8; BLOCK_BYTES]) -> usize
     ensures { (result ≡ data_length b.now) × (result ≤ 65535) }
 {
     number16(&b[2..]) as usize
 }
 
 // Where the data ends that a block says it holds; where it says too much, behind byte 509.
-fn data_end(b: &[u8]) -> usize
-    requires { length b.now ≡ 512 }
+fn data_end(b: &[u8; BLOCK_BYTES]) -> usize
     ensures { result ≡ min (4 + data_length b.now) 510 }
 {
-    let end = 4 + data_length(b);
-    if end < 510 { end } else { 510 }
+    (4 + data_length(b)).min(510)
 }
 
 // How many bytes are to be summed: those up to the data's end where only zeros follow, else bytes 0 to 509.
@@ -43,95 +39,87 @@ fn filled(end: usize, zero: bool) -> usize
     if zero { end } else { 510 }
 }
 
-// Whether every field holds a listed value, and all behind the data is 0.
-fn reply_ok(b: &[u8], zero: bool) -> bool
-    requires { (length b.now ≡ 512) × (zero ≡ all_zero (take (most_data - data_length b.now) (drop (4 + data_length b.now) b.now))) }
-    ensures { result ≡ reply_ok b.now }
+// The reply in a block whose check is right: 3 where a field's value is not listed, or where not all behind the data is 0.
+fn read_fields(b: &[u8; BLOCK_BYTES], zero: bool) -> Result<Reply<'_>, Refusal>
+    requires { zero ≡ all_zero (take (most_data - data_length b.now) (drop (4 + data_length b.now) b.now)) }
+    ensures { reply_found result ≡ if (reply_ok b.now) (pass (reply_in b.now)) (refuse 3) }
 {
-    if b[0] != 2 {
-        return false;
-    }
-    if 1 < b[1] {
-        return false;
-    }
-    if MOST_DATA < data_length(b) {
-        return false;
-    }
-    zero
-}
-
-// A reply block whose length and check are right: 3, or the reply.
-fn read_fields(b: &[u8], zero: bool) -> ReplyRead
-    requires { (block_fault b.now ≡ 0) × (zero ≡ all_zero (take (most_data - data_length b.now) (drop (4 + data_length b.now) b.now))) }
-    ensures { ReadsReply b.now result }
-{
-    if !reply_ok(b, zero) {
-        return ReplyRead::Refused(Refusal::FieldValue);
-    }
     let n = data_length(b);
-    if b[1] == 0 {
-        ReplyRead::Good(n)
-    } else {
-        ReplyRead::Failed(n)
+    if b[0] != 2 || MOST_DATA < n || !zero {
+        return Err(Refusal::FieldValue);
+    }
+    let bytes = reply_data(b, n);
+    match b[1] {
+        0 => Ok(Reply::Good(bytes)),
+        1 => Ok(Reply::Failed(bytes)),
+        _ => Err(Refusal::FieldValue),
     }
 }
 
 // Reads a reply block: 1, 2 and 3. What stands behind the data is looked at first: zeros need not be summed.
-pub fn read_reply(b: &[u8]) -> ReplyRead
+pub fn read_reply(b: &[u8]) -> Result<Reply<'_>, Refusal>
     ensures { ReadsReply b.now result }
 {
-    if b.len() != 512 {
-        return ReplyRead::Refused(Refusal::BlockLength);
-    }
-    let end = data_end(b);
-    let zero = all_zero(&b[end..510]);
-    let check = check_first(b, filled(end, zero));
-    match check {
-        Check::Refused(r) => ReplyRead::Refused(r),
-        Check::Passed => read_fields(b, zero),
-    }
+    let block = whole(b)?;
+    let end = data_end(block);
+    let zero = all_zero(&block[end..510]);
+    check_first(block, filled(end, zero))?;
+    read_fields(block, zero)
 }
 
 // The part of a block that holds so many bytes of data, or none of it where the block is too short.
+#[tactic(auto, unfolding(basics::specs::Bytes::part_of))]
 pub fn reply_data(b: &[u8], count: usize) -> &[u8]
     ensures { result.now ≡ part_of b.now 4 count }
 {
-    if b.len() < 4 {
-        return &b[0..0];
-    }
-    if b.len() - 4 < count {
-        return &b[0..0];
-    }
-    let end = 4 + count;
-    &b[4..end]
+    b.get(4..)
+        .and_then(|data| data.get(..count))
+        .unwrap_or_default()
 }
 
-fn status_byte(good: bool) -> u8
-    ensures { result ≡ status_byte good }
-{
-    if good { 0 } else { 1 }
+impl<'a> Reply<'a> {
+    // The data of a reply.
+    pub fn bytes(self) -> &'a [u8]
+        ensures { result.now ≡ (reply_said self.entry).bytes }
+    {
+        match self {
+            Reply::Good(bytes) | Reply::Failed(bytes) => bytes,
+        }
+    }
+
+    // Byte 1 of its block.
+    fn status_byte(self) -> u8
+        ensures { result ≡ status_byte (reply_said self.entry).good }
+    {
+        match self {
+            Reply::Good(_) => 0,
+            Reply::Failed(_) => 1,
+        }
+    }
 }
 
 // Writes the head of a reply block and its data.
-fn put_reply(good: bool, bytes: &[u8], out: &mut [u8])
-    requires { (length bytes.now ≤ 506) × (510 ≤ length out.old) }
-    ensures { out.new ≡ reply_head (reply_of good bytes.now) ++ drop (4 + length bytes.now) out.old }
+#[tactic(auto, using(crate::proofs::reply_block::Laws::head_put))]
+fn put_reply(reply: Reply<'_>, out: &mut [u8; BLOCK_BYTES])
+    requires { length (reply_said reply).bytes ≤ 506 }
+    ensures { out.new ≡ reply_head (reply_said reply.entry) ++ drop (4 + length (reply_said reply.entry).bytes) out.old }
 {
+    let bytes = reply.bytes();
     let n = bytes.len();
-    let head = [2u8, status_byte(good), (n / 256) as u8, (n % 256) as u8];
-    put(out, 0, &head);
+    let [high, low] = (n as u16).to_be_bytes();
+    put(out, 0, &[2, reply.status_byte(), high, low]);
     put(out, 4, bytes);
 }
 
 // Writes a reply block: 3, then 11.
-pub fn write_reply(good: bool, bytes: &[u8], out: &mut [u8]) -> Made
-    ensures { WritesReply (reply_of good bytes.now) result out.old out.new }
+pub fn write_reply(reply: Reply<'_>, out: &mut [u8]) -> Result<usize, Refusal>
+    ensures { WritesReply (reply_said reply.entry) result out.old out.new }
 {
-    if MOST_DATA < bytes.len() {
-        return Made::Refused(Refusal::FieldValue);
+    if MOST_DATA < reply.bytes().len() {
+        return Err(Refusal::FieldValue);
     }
-    let mut block = [0u8; 512];
-    put_reply(good, bytes, &mut block);
+    let mut block = [0u8; BLOCK_BYTES];
+    put_reply(reply, &mut block);
     put_check(&mut block);
     fill(&block, out)
 }

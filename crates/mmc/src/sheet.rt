@@ -1,17 +1,14 @@
 // The cue sheet of a session at once: made from an order, and read back to kind and lengths.
-ghost use Rattle.std.specs.Prelude.{◌≡◌, true, ◌++◌, map, ◌+◌, ◌-◌, ◌≤◌, ◌<◌, length, take, drop, replicate};
+ghost use Rattle.std.specs.Prelude.{◌≡◌, true, ◌++◌, map, ◌+◌, ◌-◌, ◌*◌, ◌≤◌, ◌<◌, length, drop, replicate};
 ghost use Rattle.basics.specs.Bytes.{put_at};
 ghost use Rattle.mmc.specs.Order.{most_tracks, no_track};
 ghost use Rattle.mmc.specs.Refusals.{pass, fault_in, Fills};
-ghost use Rattle.mmc.specs.Sheet.{sheet_fault, sheet_size, control_of, track_form, edge_form, cue_entry, lead_in_entry, pause_entry, start_entry, lead_out_entry, behind, all_entries, sheet_of, sheet_bytes, HasRoom, kind_in, frames_in, length_in, lengths_in, no_length, sheet_in, track_for, order_for, no_sheet, is_sheet, MakesSheet, ReadsSheet};
+ghost use Rattle.mmc.specs.Sheet.{sheet_fault, sheet_size, control_of, track_form, edge_form, cue_entry, lead_in_entry, pause_entry, start_entry, lead_out_entry, behind, all_entries, sheet_of, sheet_bytes, HasRoom, kind_in, frames_in, length_in, lengths_in, no_length, sheet_in, track_for, order_for, is_sheet, MakesSheet, ReadsSheet};
 ghost use Rattle.mmc.specs.Times.{in_range};
 
 use crate::bytes::{fill, put, same};
-use crate::order::{
-    Kind, Method, Order, ROWS, Recipe, Track, all_long, is_overlong, is_sao, is_valid,
-    mixed_or_kept, no_track, order_kind,
-};
-use crate::refusals::{Check, Made, Refusal};
+use crate::order::{Kind, Method, NO_TRACK, Order, ROWS, Recipe, Track};
+use crate::refusals::Refusal;
 use crate::times::{FIRST_ADDRESS, Time, frames_of, time_at};
 use crate::units::{BlockAddress, BlockCount, FrameCount, TrackNumber};
 
@@ -23,34 +20,27 @@ pub struct Sheet {
     pub lengths: [BlockCount; ROWS],
 }
 
-// The sheet where the check passed; where it did not, no sheet.
-#[derive(Clone, Copy)]
-pub struct SheetRead {
-    pub check: Check,
-    pub sheet: Sheet,
-}
-
 // Whether an order has a cue sheet: 3, 8, 9 and 10.
-fn check_sheet(o: Order) -> Check
-    ensures { fault_in result ≡ sheet_fault o }
+#[tactic(auto, unfolding(crate::specs::Sheet::sheet_fault))]
+fn check_sheet(o: &Order) -> Result<(), Refusal>
+    ensures { fault_in result ≡ sheet_fault o.now }
 {
-    if !is_valid(o) {
-        return Check::Refused(Refusal::FieldValue);
+    if !o.is_valid() {
+        return Err(Refusal::FieldValue);
     }
-    let method = o.method;
-    if !is_sao(method) {
-        return Check::Refused(Refusal::FieldValue);
+    if o.method != Method::Sao {
+        return Err(Refusal::FieldValue);
     }
-    if mixed_or_kept(o) {
-        return Check::Refused(Refusal::MixedOrKept);
+    if o.mixed_or_kept() {
+        return Err(Refusal::MixedOrKept);
     }
-    if !all_long(o) {
-        return Check::Refused(Refusal::ShortTrack);
+    if !o.all_long() {
+        return Err(Refusal::ShortTrack);
     }
-    if is_overlong(o) {
-        return Check::Refused(Refusal::NoRoom);
+    if o.is_overlong() {
+        return Err(Refusal::NoRoom);
     }
-    Check::Passed
+    Ok(())
 }
 
 // A cue sheet has so many bytes at least, of one track, and at most, of 99.
@@ -59,19 +49,11 @@ const LEAST_BYTES: usize = 8 * (1 + 3);
 const MOST_BYTES: usize = 8 * (ROWS + 3);
 
 // Whether a cue sheet can have so many bytes: 8 for each of 4 to 102 entries.
+#[tactic(auto, unfolding(crate::specs::Sheet::sheet_size))]
 pub(crate) fn sheet_size(n: usize) -> bool
     ensures { result ≡ sheet_size n }
 {
-    if n < LEAST_BYTES {
-        return false;
-    }
-    if MOST_BYTES < n {
-        return false;
-    }
-    if n % 8 != 0 {
-        return false;
-    }
-    true
+    (LEAST_BYTES..=MOST_BYTES).contains(&n) && n % 8 == 0
 }
 
 fn control(k: Kind) -> u8
@@ -102,6 +84,7 @@ fn edge_form(k: Kind) -> u8
 }
 
 // An entry of eight bytes.
+#[tactic(auto, using(crate::proofs::times::Signed::range_time), unfolding(crate::specs::Sheet::cue_entry))]
 fn cue_entry(k: Kind, track: TrackNumber, index: u8, form: u8, at: BlockAddress) -> [u8; 8]
     requires { (track.0 < 256) × (in_range at ≡ true) }
     ensures { result ≡ cue_entry k track index form at }
@@ -119,6 +102,7 @@ fn cue_entry(k: Kind, track: TrackNumber, index: u8, form: u8, at: BlockAddress)
     ]
 }
 
+#[tactic(auto, unfolding(crate::specs::Sheet::lead_in_entry, crate::specs::Times::in_range))]
 fn lead_in_entry(kind: Kind) -> [u8; 8]
     ensures { result ≡ lead_in_entry kind }
 {
@@ -126,6 +110,7 @@ fn lead_in_entry(kind: Kind) -> [u8; 8]
     cue_entry(kind, TrackNumber(0), 0, edge_form(kind), first)
 }
 
+#[tactic(auto, unfolding(crate::specs::Sheet::pause_entry, crate::specs::Times::in_range))]
 fn pause_entry(kind: Kind) -> [u8; 8]
     ensures { result ≡ pause_entry kind }
 {
@@ -134,6 +119,7 @@ fn pause_entry(kind: Kind) -> [u8; 8]
 }
 
 // Index 1 of a track.
+#[tactic(auto, unfolding(crate::specs::Sheet::start_entry))]
 fn start_entry(kind: Kind, track: TrackNumber, at: BlockAddress) -> [u8; 8]
     requires { (track.0 < 256) × (in_range at ≡ true) }
     ensures { result ≡ start_entry kind track at }
@@ -141,6 +127,7 @@ fn start_entry(kind: Kind, track: TrackNumber, at: BlockAddress) -> [u8; 8]
     cue_entry(kind, track, 1, track_form(kind), at)
 }
 
+#[tactic(auto, unfolding(crate::specs::Sheet::lead_out_entry))]
 fn lead_out_entry(kind: Kind, at: BlockAddress) -> [u8; 8]
     requires { in_range at ≡ true }
     ensures { result ≡ lead_out_entry kind at }
@@ -148,68 +135,62 @@ fn lead_out_entry(kind: Kind, at: BlockAddress) -> [u8; 8]
     cue_entry(kind, TrackNumber(0xAA), 1, edge_form(kind), at)
 }
 
-// The address behind a track that starts at an address.
-fn behind_track(at: BlockAddress, t: Track) -> BlockAddress
+// The address behind so many blocks from an address on.
+#[tactic(auto, using(crate::proofs::times::Signed::plus_fits, crate::proofs::times::Signed::plus_is))]
+fn behind(at: BlockAddress, n: BlockCount) -> BlockAddress
     requires { in_range at ≡ true }
-    ensures { result ≡ behind at t.length }
+    ensures { result ≡ behind at n }
 {
-    BlockAddress(at.0 + t.length.0 as i64)
+    BlockAddress(at.0 + n.0 as i64)
 }
 
 // Writes index 1 of each track, then the lead-out.
-fn put_tracks(o: Order, out: &mut [u8])
-    requires { HasRoom o (length out.old) }
-    ensures { out.new ≡ put_at out.old 16 (all_entries o) }
+fn put_tracks(o: &Order, out: &mut [u8])
+    requires { HasRoom o.now (length out.old) }
+    ensures { out.new ≡ put_at out.old 16 (all_entries o.now) }
 {
-    let n = o.count as usize;
-    let kind = order_kind(o);
-    let tracks = o.tracks;
+    let kind = o.kind();
+    let tracks = o.ordered();
     let mut at = BlockAddress(0);
-    let mut i: usize = 0;
-    while i < n {
-        let one = start_entry(kind, TrackNumber((i + 1) as u16), at);
-        put(out, 16 + 8 * i, &one);
-        at = behind_track(at, tracks[i]);
-        i = i + 1;
+    for (i, track) in tracks.iter().enumerate() {
+        put(
+            out,
+            16 + 8 * i,
+            &start_entry(kind, TrackNumber(i as u16 + 1), at),
+        );
+        at = behind(at, track.length);
     }
-    let last = lead_out_entry(kind, at);
-    put(out, 16 + 8 * i, &last);
+    put(out, 16 + 8 * tracks.len(), &lead_out_entry(kind, at));
 }
 
 // Writes the whole sheet at the start of out.
-fn put_sheet(o: Order, out: &mut [u8])
-    requires { HasRoom o (length out.old) }
-    ensures { out.new ≡ sheet_of o ++ drop (sheet_bytes o.count) out.old }
+fn put_sheet(o: &Order, out: &mut [u8])
+    requires { HasRoom o.now (length out.old) }
+    ensures { out.new ≡ sheet_of o.now ++ drop (sheet_bytes o.now.count) out.old }
 {
-    let kind = order_kind(o);
-    let head = lead_in_entry(kind);
-    put(out, 0, &head);
-    let pause = pause_entry(kind);
-    put(out, 8, &pause);
+    let kind = o.kind();
+    put(out, 0, &lead_in_entry(kind));
+    put(out, 8, &pause_entry(kind));
     put_tracks(o, out);
 }
 
 // Makes the cue sheet of an order that has one.
-fn fill_sheet(o: Order, out: &mut [u8]) -> Made
-    requires { sheet_fault o ≡ 0 }
-    ensures { Fills (pass (sheet_of o)) result out.old out.new }
+fn fill_sheet(o: &Order, out: &mut [u8]) -> Result<usize, Refusal>
+    requires { sheet_fault o.now ≡ 0 }
+    ensures { Fills (pass (sheet_of o.now)) result out.old out.new }
 {
     let mut sheet = [0u8; MOST_BYTES];
     put_sheet(o, &mut sheet);
     let n = o.count as usize;
-    let end = 8 * (n + 3);
-    fill(&sheet[0..end], out)
+    fill(&sheet[..8 * (n + 3)], out)
 }
 
 // Makes the cue sheet of an order: 3, 8, 9, 10, then 11.
-pub fn make_sheet(o: Order, out: &mut [u8]) -> Made
+pub fn make_sheet(o: Order, out: &mut [u8]) -> Result<usize, Refusal>
     ensures { MakesSheet o result out.old out.new }
 {
-    let check = check_sheet(o);
-    match check {
-        Check::Refused(r) => Made::Refused(r),
-        Check::Passed => fill_sheet(o, out),
-    }
+    check_sheet(&o)?;
+    fill_sheet(&o, out)
 }
 
 fn kind_in(control: u8) -> Kind
@@ -222,94 +203,79 @@ fn kind_in(control: u8) -> Kind
     }
 }
 
-// The time of the entry at the index at.
-fn frames_in(b: &[u8], at: usize) -> FrameCount
-    requires { at + 8 ≤ length b.now }
-    ensures { result ≡ frames_in (drop at b.now) }
+// The time of the first entry.
+#[tactic(auto, unfolding(crate::specs::Sheet::frames_in))]
+fn frames_in(b: &[u8]) -> FrameCount
+    requires { 8 ≤ length b.now }
+    ensures { result ≡ frames_in b.now }
 {
     frames_of(Time {
-        minute: b[at + 5],
-        second: b[at + 6],
-        frame: b[at + 7],
+        minute: b[5],
+        second: b[6],
+        frame: b[7],
     })
 }
 
-// How far a lies behind b.
-fn past(a: FrameCount, b: FrameCount) -> BlockCount
-    ensures { result ≡ record { 0 = a.0 - b.0 } }
+// The length of the track that the first entry starts; it ends where the next entry starts.
+#[tactic(auto, unfolding(crate::specs::Sheet::length_in))]
+fn length_in(b: &[u8]) -> BlockCount
+    requires { 16 ≤ length b.now }
+    ensures { result ≡ length_in b.now }
 {
-    if b.0 < a.0 {
-        BlockCount(a.0 - b.0)
-    } else {
-        BlockCount(0)
-    }
+    let starts = frames_in(b);
+    let ends = frames_in(&b[8..]);
+    BlockCount(ends.0.saturating_sub(starts.0))
 }
 
-// The length of the track whose entry stands at the index at; it ends where the next entry starts.
-fn length_in(b: &[u8], at: usize) -> BlockCount
-    requires { at + 16 ≤ length b.now }
-    ensures { result ≡ length_in (drop at b.now) }
-{
-    let starts = frames_in(b, at);
-    let ends = frames_in(b, at + 8);
-    past(ends, starts)
-}
-
+// The lengths of the tracks that the first n entries start.
+#[tactic(auto, using(crate::proofs::sheet::Reading::no_lengths, crate::proofs::sheet::Reading::more_lengths))]
 fn lengths_in(n: usize, b: &[u8]) -> [BlockCount; ROWS]
-    requires { (n ≤ most_tracks) × (sheet_bytes n ≤ length b.now) }
-    ensures { result ≡ lengths_in n (drop 16 b.now) ++ replicate (most_tracks - n) no_length }
+    requires { (n ≤ most_tracks) × (8 * (n + 1) ≤ length b.now) }
+    ensures { result ≡ lengths_in n b.now ++ replicate (most_tracks - n) no_length }
 {
-    let none = BlockCount(0);
-    let mut lengths = [none; ROWS];
-    let mut i: usize = 0;
-    while i < n {
-        lengths[i] = length_in(b, 16 + 8 * i);
-        i = i + 1;
+    let mut lengths = [BlockCount(0); ROWS];
+    for i in 0..n {
+        lengths[i] = length_in(&b[8 * i..]);
     }
     lengths
 }
 
 // The kind and the lengths that the bytes give, whatever else they hold.
+#[tactic(auto, using(crate::proofs::sheet::Reading::shape), unfolding(crate::specs::Sheet::sheet_in))]
 fn sheet_in(b: &[u8]) -> Sheet
     requires { sheet_size (length b.now) ≡ true }
     ensures { result ≡ sheet_in b.now }
 {
     let n = b.len() / 8 - 3;
-    let kind = kind_in(b[0]);
-    let lengths = lengths_in(n, b);
     Sheet {
-        kind: kind,
+        kind: kind_in(b[0]),
         count: n as u8,
-        lengths: lengths,
+        lengths: lengths_in(n, &b[16..]),
     }
 }
 
-// The tracks of a kind with the first n of these lengths.
-fn tracks_for(kind: Kind, n: usize, lengths: [BlockCount; ROWS]) -> [Track; ROWS]
-    requires { n ≤ most_tracks }
-    ensures { result ≡ map (track_for kind) (take n lengths) ++ replicate (most_tracks - n) no_track }
+// The tracks of a kind with these lengths.
+#[tactic(auto, using(crate::proofs::sheet::Reading::more_tracks))]
+fn tracks_for(kind: Kind, lengths: &[BlockCount]) -> [Track; ROWS]
+    requires { length lengths.now ≤ most_tracks }
+    ensures { result ≡ map (track_for kind) lengths.now ++ replicate (most_tracks - length lengths.now) no_track }
 {
-    let none = no_track();
-    let mut tracks = [none; ROWS];
-    let mut i: usize = 0;
-    while i < n {
+    let mut tracks = [NO_TRACK; ROWS];
+    for (i, length) in lengths.iter().enumerate() {
         tracks[i] = Track {
-            kind: kind,
-            length: lengths[i],
+            kind,
+            length: *length,
         };
-        i = i + 1;
     }
     tracks
 }
 
 // The order that a sheet is for.
-fn order_for(s: Sheet) -> Order
-    requires { s.count ≤ most_tracks }
-    ensures { result ≡ order_for s }
+#[tactic(auto, unfolding(crate::specs::Sheet::order_for))]
+fn order_for(s: &Sheet) -> Order
+    requires { s.now.count ≤ most_tracks }
+    ensures { result ≡ order_for s.now }
 {
-    let kind = s.kind;
-    let lengths = s.lengths;
-    let tracks = tracks_for(kind, s.count as usize, lengths);
     Order {
         method: Method::Sao,
         keep: false,
@@ -318,54 +284,34 @@ fn order_for(s: Sheet) -> Order
         erase: false,
         recipe: Recipe::Old,
         count: s.count,
-        tracks: tracks,
+        tracks: tracks_for(s.kind, &s.lengths[..s.count as usize]),
     }
 }
 
 // Whether the bytes are the sheet of the order that their kind and lengths give.
-fn is_sheet(o: Order, b: &[u8]) -> bool
-    requires { (sheet_size (length b.now) ≡ true) × (o ≡ order_for (sheet_in b.now)) }
+fn is_sheet(o: &Order, b: &[u8]) -> bool
+    requires { (sheet_size (length b.now) ≡ true) × (o.now ≡ order_for (sheet_in b.now)) }
     ensures { result ≡ is_sheet b.now }
 {
-    let check = check_sheet(o);
-    match check {
-        Check::Refused(_) => false,
-        Check::Passed => {
-            let mut sheet = [0u8; MOST_BYTES];
-            put_sheet(o, &mut sheet);
-            let n = b.len();
-            same(&sheet[0..n], b)
-        }
+    if check_sheet(o).is_err() {
+        return false;
     }
-}
-
-fn no_sheet() -> SheetRead
-    ensures { (result.check ≡ Check.Refused Refusal.NoCueSheet) × (result.sheet ≡ no_sheet) }
-{
-    let none = BlockCount(0);
-    SheetRead {
-        check: Check::Refused(Refusal::NoCueSheet),
-        sheet: Sheet {
-            kind: Kind::Audio,
-            count: 0,
-            lengths: [none; ROWS],
-        },
-    }
+    let mut sheet = [0u8; MOST_BYTES];
+    put_sheet(o, &mut sheet);
+    same(&sheet[..b.len()], b)
 }
 
 // Reads a cue sheet: 14.
-pub fn read_sheet(b: &[u8]) -> SheetRead
+#[tactic(auto, using(crate::proofs::sheet::Laws::found), unfolding(crate::specs::Sheet::read_sheet))]
+pub fn read_sheet(b: &[u8]) -> Result<Sheet, Refusal>
     ensures { ReadsSheet b.now result }
 {
     if !sheet_size(b.len()) {
-        return no_sheet();
+        return Err(Refusal::NoCueSheet);
     }
     let sheet = sheet_in(b);
-    if !is_sheet(order_for(sheet), b) {
-        return no_sheet();
+    if !is_sheet(&order_for(&sheet), b) {
+        return Err(Refusal::NoCueSheet);
     }
-    SheetRead {
-        check: Check::Passed,
-        sheet: sheet,
-    }
+    Ok(sheet)
 }

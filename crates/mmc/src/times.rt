@@ -1,28 +1,16 @@
 // Block addresses as minute, second and frame, and back: minutes 0 to 89 are the program area, minutes 90 to 99 the lead-in before it.
 // The conversion adds, subtracts, compares and shifts, and does nothing else: the processor has no divide, and may have no multiply.
-ghost use Rattle.std.specs.Prelude.{◌≡◌, true, ◌+◌, ◌*◌, ◌/◌, ◌%◌, ◌<◌, ◌≤◌};
+ghost use Rattle.std.specs.Prelude.{◌≡◌, true, ◌+◌, ◌*◌, ◌/◌, ◌%◌, ◌^◌, ◌<◌, ◌≤◌};
 ghost use Rattle.mmc.specs.Times.{in_range, has_time, frames_to, address_at, time_frames, address_at_time, is_time, clock, time_at, frames_of, all_frames, GivesTime, GivesAddress};
 
 use crate::refusals::Refusal;
 use crate::units::{BlockAddress, FrameCount};
 
-#[derive(Clone, Copy)]
+#[derive(Clone, Copy, Debug, PartialEq, Eq)]
 pub struct Time {
     pub minute: u8,
     pub second: u8,
     pub frame: u8,
-}
-
-#[derive(Clone, Copy)]
-pub enum TimeAnswer {
-    At(Time),
-    Refused(Refusal),
-}
-
-#[derive(Clone, Copy)]
-pub enum AddressAnswer {
-    At(BlockAddress),
-    Refused(Refusal),
 }
 
 // The frames before address 0, which are the blocks of a pause.
@@ -43,22 +31,23 @@ const LEAD_IN_MINUTE: u8 = 90;
 const LEAD_IN_FRAMES: i64 = 450150;
 
 // Whether an address lies in the program area.
+#[tactic(auto, unfolding(crate::specs::Times::in_range))]
 pub(crate) fn in_range(a: BlockAddress) -> bool
     ensures { result ≡ in_range a }
 {
-    let z = a.0;
-    FIRST_ADDRESS <= z && z <= LAST_ADDRESS
+    FIRST_ADDRESS <= a.0 && a.0 <= LAST_ADDRESS
 }
 
 // Whether an address has a time.
+#[tactic(auto, unfolding(crate::specs::Times::has_time))]
 fn has_time(a: BlockAddress) -> bool
     ensures { result ≡ has_time a }
 {
-    let z = a.0;
-    LEAD_IN_ADDRESS <= z && z <= LAST_ADDRESS
+    LEAD_IN_ADDRESS <= a.0 && a.0 <= LAST_ADDRESS
 }
 
 // The frames to an address of the program area.
+#[tactic(auto, using(crate::proofs::times::Signed::frames), unfolding(crate::specs::Times::frames_to))]
 fn frames_to(a: BlockAddress) -> FrameCount
     requires { in_range a ≡ true }
     ensures { result ≡ frames_to a }
@@ -67,22 +56,23 @@ fn frames_to(a: BlockAddress) -> FrameCount
 }
 
 // The address at a count of frames in the program area.
-fn address_at(f: FrameCount) -> BlockAddress
+#[tactic(auto, unfolding(crate::specs::Times::address_at))]
+pub fn address_at(f: FrameCount) -> BlockAddress
     ensures { result ≡ address_at f }
 {
     BlockAddress(f.0 as i64 - LEAD_FRAMES)
 }
 
 // The time of an address in frames.
+#[tactic(auto, using(crate::proofs::times::Signed::by_area))]
 fn time_frames(a: BlockAddress) -> FrameCount
     requires { has_time a ≡ true }
     ensures { result ≡ time_frames a }
 {
-    let z = a.0;
-    if FIRST_ADDRESS <= z {
+    if FIRST_ADDRESS <= a.0 {
         frames_to(a)
     } else {
-        FrameCount((z + LEAD_IN_FRAMES) as u32)
+        FrameCount((a.0 + LEAD_IN_FRAMES) as u32)
     }
 }
 
@@ -92,14 +82,6 @@ fn three(x: u32) -> u32
     ensures { result ≡ 3 * x }
 {
     x + x + x
-}
-
-// Five times a number.
-fn five(x: u32) -> u32
-    requires { x < 1048576 }
-    ensures { result ≡ 5 * x }
-{
-    x + x + x + x + x
 }
 
 // Nine times a number.
@@ -130,18 +112,12 @@ fn in_256ths(n: u32) -> u32
     x + (x >> 8) + 3
 }
 
-// The 512ths past the last whole second.
-fn past_512ths(x: u32) -> u32
-    ensures { result ≡ x % 512 }
+// What lies past the last whole second or minute, in so many bits behind the point.
+fn past(x: u32, bits: u32) -> u32
+    requires { bits < 32 }
+    ensures { result ≡ x % 2 ^ bits }
 {
-    x - ((x >> 9) << 9)
-}
-
-// The 256ths past the last whole minute.
-fn past_256ths(x: u32) -> u32
-    ensures { result ≡ x % 256 }
-{
-    x - ((x >> 8) << 8)
+    x - ((x >> bits) << bits)
 }
 
 // The frame at so many 512ths of a second: 75 / 512 of them, as 1 / 64 of 9 + 3 / 8.
@@ -158,7 +134,7 @@ fn second_at(part: u32) -> u32
     requires { part < 256 }
     ensures { result ≡ 60 * part / 256 }
 {
-    three(five(part)) >> 6
+    ((part << 4) - part) >> 6
 }
 
 // The seconds in a count of frames.
@@ -174,7 +150,7 @@ fn frame_of(n: u32) -> u8
     requires { n < all_frames }
     ensures { result ≡ n % 75 }
 {
-    frame_at(past_512ths(in_512ths(n))) as u8
+    frame_at(past(in_512ths(n), 9)) as u8
 }
 
 // The minutes in a count of seconds.
@@ -190,7 +166,7 @@ fn second_of(n: u32) -> u8
     requires { n < 6000 }
     ensures { result ≡ n % 60 }
 {
-    second_at(past_256ths(in_256ths(n))) as u8
+    second_at(past(in_256ths(n), 8)) as u8
 }
 
 // A count of frames as a time.
@@ -207,6 +183,7 @@ fn clock_of(f: FrameCount) -> Time
 }
 
 // The time of an address that has one.
+#[tactic(auto, using(crate::proofs::times::Signed::few_frames))]
 pub(crate) fn time_at(a: BlockAddress) -> Time
     requires { has_time a ≡ true }
     ensures { result ≡ time_at a }
@@ -215,6 +192,7 @@ pub(crate) fn time_at(a: BlockAddress) -> Time
 }
 
 // Whether minute, second and frame are a time.
+#[tactic(auto, unfolding(crate::specs::Times::is_time))]
 fn is_time(t: Time) -> bool
     ensures { result ≡ is_time t }
 {
@@ -247,6 +225,7 @@ pub(crate) fn frames_of(t: Time) -> FrameCount
 }
 
 // The address of a time.
+#[tactic(auto, unfolding(crate::specs::Times::address_at_time))]
 fn address_at_time(t: Time) -> BlockAddress
     ensures { result ≡ address_at_time t }
 {
@@ -259,23 +238,25 @@ fn address_at_time(t: Time) -> BlockAddress
 }
 
 // The time of an address: 15 for one outside -45,150 to 404,849.
-pub fn time_of(a: BlockAddress) -> TimeAnswer
+#[tactic(auto, using(crate::proofs::times::Laws::time_address), unfolding(crate::specs::Times::time_of))]
+pub fn time_of(a: BlockAddress) -> Result<Time, Refusal>
     ensures { GivesTime a result }
 {
     if has_time(a) {
-        TimeAnswer::At(time_at(a))
+        Ok(time_at(a))
     } else {
-        TimeAnswer::Refused(Refusal::OutOfRange)
+        Err(Refusal::OutOfRange)
     }
 }
 
 // The address of a time: 15 for what is no time.
-pub fn address_of(t: Time) -> AddressAnswer
+#[tactic(auto, using(crate::proofs::times::Laws::address_time), unfolding(crate::specs::Times::address_of))]
+pub fn address_of(t: Time) -> Result<BlockAddress, Refusal>
     ensures { GivesAddress t result }
 {
     if is_time(t) {
-        AddressAnswer::At(address_at_time(t))
+        Ok(address_at_time(t))
     } else {
-        AddressAnswer::Refused(Refusal::OutOfRange)
+        Err(Refusal::OutOfRange)
     }
 }

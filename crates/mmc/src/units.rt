@@ -5,7 +5,7 @@
 pub struct BlockAddress(pub i64);
 
 // How many blocks: a track's length, a Transfer Length.
-#[derive(Clone, Copy)]
+#[derive(Clone, Copy, Debug, PartialEq, Eq)]
 pub struct BlockCount(pub u32);
 
 // The sum of several lengths.

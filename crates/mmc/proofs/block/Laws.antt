@@ -6,15 +6,16 @@ use Prim.Native.Nat.{ℕ, ◌*◌, ◌+◌, ◌-◌, ◌/◌, ◌%◌, ◌≤◌
 use native.Mathlib.Omega.{arith}
 use borrow.Author.Tests.{eq-eqb, ne_eqb, eqb-true}
 use lib.Dec.{eqb}
-use lib.ListN.{length, get_or, take, drop, take-append-drop, length-append, drop_of_length-le}
-use lib.Seq.{take_at, drop_at, drop-cons, take-add}
+use lib.ListN.{length, get_or, take, drop, length-drop, take-append-drop, length-append, drop_of_length-le}
+use lib.Seq.{take_at, drop_at, drop-cons, take-add, take_all}
+use Rattle.std.specs.Int.{to_be_bytes, w16}
 use Rattle.basics.specs.Bytes.{if, be16, bytes16, sum_of, all_zero, put_at}
 use Rattle.mmc.specs.Refusals.{pass, refuse, number_of}
 use Rattle.mmc.specs.Block.{check_sum, sealed, block_fault, block_read}
 use Rattle.mmc.specs.declared.refusals.Refusal.{Refusal}
 use Rattle.mmc.proofs.refusals.Laws.{numbered}
 use Rattle.basics.proofs.Tests.{if_zero}
-use Rattle.basics.proofs.Bytes.{sum_append, zeros_sum, Bytes}
+use Rattle.basics.proofs.Bytes.{sum_append, zeros_sum, be_bytes16, Bytes}
 
 pub fault_length : (b : List ℕ) → block_fault b ≡ 0 → length b ≡ 512
 unfolding block_fault
@@ -31,10 +32,17 @@ sum_first b n h z =
     let t : take 510 b ≡ take n b ++ take (510 - n) (drop n b) = ap (λ (k : ℕ). take k b) (sym e) ∙ take-add n (510 - n) b in
     omega (arith, ap sum_of t, sum_append (take n b) (take (510 - n) (drop n b)), zeros_sum (take (510 - n) (drop n b)) z)
 
+-- the fault of a block, by the sum of its first n bytes where only zeros follow
+pub first_fault : (b : List ℕ) (n held sum : ℕ) → length b ≡ 512 → n ≤ 510 → all_zero (take (510 - n) (drop n b)) ≡ true → held ≡ be16 (take 2 (drop 510 b)) → sum ≡ sum_of (take n b) → block_fault b ≡ if (eqb held (sum % 65536)) 0 2
+unfolding block_fault check_sum
+first_fault b n held sum len h z eh es =
+    let t : take 2 (drop 510 b) ≡ drop 510 b = take_all 2 (drop 510 b) (omega (arith, length-drop 510 b)) in
+    rw (eq-eqb _ _ len, eh, t, es, sum_first b n h z)
+
 -- the check, put behind bytes 0 to 509
-pub check_put : (d : List ℕ) (sum : ℕ) → length d ≡ 512 → sum ≡ sum_of (take 510 d) → put_at d 510 (bytes16 (sum % 65536)) ≡ sealed (take 510 d)
+pub check_put : (d : List ℕ) (sum : ℕ) → length d ≡ 512 → sum ≡ sum_of (take 510 d) → put_at d 510 (to_be_bytes w16 (sum % 65536)) ≡ sealed (take 510 d)
 unfolding put_at sealed check_sum
-check_put d sum z e = rw (e, drop_of_length-le d {i = 512} (omega arith)) (append-nil (take 510 d ++ bytes16 (sum_of (take 510 d) % 65536)))
+check_put d sum z e = rw (e, be_bytes16 (sum_of (take 510 d) % 65536) (omega arith), drop_of_length-le d {i = 512} (omega arith)) (append-nil (take 510 d ++ bytes16 (sum_of (take 510 d) % 65536)))
 
 pub sealed_ok : (body : List ℕ) → length body ≡ 510 → block_fault (sealed body) ≡ 0
 unfolding block_fault sealed
@@ -61,6 +69,11 @@ module _ {A : Type 0} (b : List ℕ) (listed : Bool) (x : A) where
   pub read_faulty : (r : Refusal) → block_fault b ≡ number_of r → block_read b listed x ≡ refuse (number_of r)
   unfolding block_read
   read_faulty r e = rw (e, numbered r)
+
+  -- without a fault, the fields decide
+  pub read_whole : block_fault b ≡ 0 → block_read b listed x ≡ if listed (pass x) (refuse 3)
+  unfolding block_read
+  read_whole e = rw e refl
 
   pub read_unlisted : block_fault b ≡ 0 → listed ≡ false → block_read b listed x ≡ refuse 3
   unfolding block_read

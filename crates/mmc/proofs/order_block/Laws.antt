@@ -15,7 +15,8 @@ use Rattle.mmc.specs.OrderBlock.{order_block, method_byte, method_of, flags_byte
 use Rattle.mmc.specs.Order.{valid_order}
 use Rattle.mmc.proofs.order_block.Rows.{behind_rows, body_length, rows_495}
 use Rattle.mmc.proofs.block.Laws.{sealed_ok, sealed_is, fault_length, read_listed, read_passed}
-use Rattle.basics.proofs.Tests.{both, known}
+use Rattle.std.proofs.lemmas.Bool.{and_parts}
+use Rattle.basics.proofs.Tests.{known}
 use Rattle.basics.proofs.Bytes.{Bytes, be32_bytes32, bytes32_be32, zeros_are}
 use Rattle.mmc.specs.Refusals.{pass, refuse}
 use Rattle.mmc.specs.declared.order.Order.{Order}
@@ -84,8 +85,8 @@ each f (suc k) = f 0 && each (λ (n : ℕ). f (suc n)) k
 each_is : (f : ℕ → Bool) (k n : ℕ) → each f k ≡ true → n < k → f n ≡ true
 unfolding each
 each_is f zero n e h = absurd (omega arith)
-each_is f (suc k) zero e h = (both (f 0) (each (λ (n : ℕ). f (suc n)) k) e).0
-each_is f (suc k) (suc n) e h = each_is (λ (n : ℕ). f (suc n)) k n (both (f 0) (each (λ (n : ℕ). f (suc n)) k) e).1 (omega arith)
+each_is f (suc k) zero e h = (and_parts (f 0) (each (λ (n : ℕ). f (suc n)) k) e).0
+each_is f (suc k) (suc n) e h = each_is (λ (n : ℕ). f (suc n)) k n (and_parts (f 0) (each (λ (n : ℕ). f (suc n)) k) e).1 (omega arith)
 
 -- the bytes from 0 to 15, by a test that is computed
 flags_is : (n : ℕ) → n ≤ 15 → flags_byte (keep_of n) (protect_of n) (immed_of n) (erase_of n) ≡ n
@@ -182,7 +183,7 @@ rows_are (suc k) (a ∷ b ∷ c ∷ []) h u g = absurd (omega arith)
 rows_are (suc k) (a ∷ b ∷ c ∷ d ∷ []) h u g = absurd (omega arith)
 rows_are (suc k) (a ∷ b ∷ c ∷ d ∷ e ∷ x) h u g =
     let n : 5 * suc k ≡ suc (suc (suc (suc (suc (5 * k))))) = omega arith in
-    let s = both (leb a 1) (kinds_ok k x) g in
+    let s = and_parts (leb a 1) (kinds_ok k x) g in
     rw (n, kind_is a (leb-true a 1 s.0), bytes32_be32 b c d e (u 1) (u 2) (u 3) (u 4), rows_are k x (omega arith) (λ i. u (suc (suc (suc (suc (suc i)))))) s.1)
 
 -- a block whose fields are an order's is that order's body
@@ -194,15 +195,15 @@ body_is (a ∷ b ∷ []) u n f g z = absurd (omega arith)
 body_is (a ∷ b ∷ c ∷ []) u n f g z = absurd (omega arith)
 body_is (a ∷ b ∷ c ∷ d ∷ x) u n f g z =
     let r : rows (tracks_of 99 x) ≡ take 495 x = rows_are 99 x (omega arith) (λ i. u (suc (suc (suc (suc i))))) g in
-    let t = both (leb (get_or x 495 0) last_recipe) (all_zero (take 10 (drop 496 x))) z in
+    let t = and_parts (leb (get_or x 495 0) last_recipe) (all_zero (take 10 (drop 496 x))) z in
     let m : length (take 10 (drop 496 x)) ≡ 10 = length-take-le 10 (drop 496 x) (omega (arith, length-drop 496 x)) in
     let y : take 10 (drop 496 x) ≡ replicate 10 0 = zeros_are (take 10 (drop 496 x)) t.1 ∙ ap (λ (k : ℕ). replicate k 0) m in
     let v : take 11 (drop 495 x) ≡ recipe_byte (recipe_of (get_or x 495 0)) ∷ replicate 10 0 =
     ap (take 11) (drop-cons x 495 0 (omega arith)) ∙ rw (y, recipe_is (get_or x 495 0) (leb-true _ last_recipe t.0)) in
     let w : take 506 x ≡ rows (tracks_of 99 x) ++ recipe_byte (recipe_of (get_or x 495 0)) ∷ replicate 10 0 = take-add 495 11 x ∙ rw (r, v) in
-    let p = both (eqb a 1 && leb 1 b) (leb b last_method && leb c last_flags) f in
-    let q = both (eqb a 1) (leb 1 b) p.0 in
-    let s = both (leb b last_method) (leb c last_flags) p.1 in
+    let p = and_parts (eqb a 1 && leb 1 b) (leb b last_method && leb c last_flags) f in
+    let q = and_parts (eqb a 1) (leb 1 b) p.0 in
+    let s = and_parts (leb b last_method) (leb c last_flags) p.1 in
     rw (eqb-true a 1 q.0, w, method_is b (leb-true 1 b q.1) (leb-true b last_method s.0), flags_is c (omega (arith, leb-true c last_flags s.1)))
 
 -- ---- what the contracts carry
@@ -223,8 +224,8 @@ pub written : (b : List ℕ) → Bytes b → (o : Order) → read_order b ≡ pa
 unfolding read_order order_ok order_bytes order_block
 written b u o h =
     let t = read_passed b (order_ok b) (fields_of b) o h in
-    let k = both (head_ok b) (kinds_ok 99 (drop 4 b) && (valid_order (fields_of b) && rest_ok b)) t.1 in
-    let g = both (kinds_ok 99 (drop 4 b)) (valid_order (fields_of b) && rest_ok b) k.1 in
-    let v = both (valid_order (fields_of b)) (rest_ok b) g.1 in
+    let k = and_parts (head_ok b) (kinds_ok 99 (drop 4 b) && (valid_order (fields_of b) && rest_ok b)) t.1 in
+    let g = and_parts (kinds_ok 99 (drop 4 b)) (valid_order (fields_of b) && rest_ok b) k.1 in
+    let v = and_parts (valid_order (fields_of b)) (rest_ok b) g.1 in
     let e : b ≡ sealed (order_body (fields_of b)) = sealed_is b u t.0 ∙ ap sealed (body_is b u (fault_length b t.0) k.0 g.0 v.1) in
     rw (← t.2) (simp v.0 (ap pass (sym e)))

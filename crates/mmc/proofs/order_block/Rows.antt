@@ -1,13 +1,12 @@
 -- One more row of an order block, in the loops that read the rows, judge them and put them.
 use mathlib.Core.Path.{◌≡◌, refl, sym, ap, ◌∙◌}
 use mathlib.Core.List.{List, [], ◌∷◌, ◌++◌, append-nil, append_assoc}
-use mathlib.Core.Bool.{true, ◌&&◌}
+use mathlib.Core.Bool.{Bool, true, false, ◌&&◌}
 use Prim.Native.Nat.{ℕ, zero, suc, ◌+◌, ◌*◌, ◌-◌, ◌≤◌, ◌<◌}
 use native.Mathlib.Numerals.{add-one}
-use native.Mathlib.Nat.{add-zero}
 use native.Mathlib.Omega.{arith}
 use lib.ListN.{length, get_or, take, drop, set, length-append, take-append-drop, replicate}
-use lib.Seq.{take-suc-set, append_snoc, drop-drop, take_all, get_or-drop, take_at, length-take-le}
+use lib.Seq.{take-suc-set, append_snoc, drop-drop, take_all, take_at, length-take-le}
 use lib.Dec.{leb}
 use Rattle.basics.specs.Bytes.{put_at, bytes32}
 use Rattle.mmc.specs.Block.{sealed}
@@ -17,16 +16,20 @@ use Rattle.mmc.specs.declared.order.Order.{Order}
 use Rattle.mmc.specs.declared.order.Track.{Track}
 
 -- the row at p, with m rows after it
-pub kind_next : (p m : ℕ) (b : List ℕ) → kinds_ok (suc m) (drop p b) ≡ (leb (get_or b p 0) 1 && kinds_ok m (drop (p + 5) b))
+kinds_more : (p m : ℕ) (b : List ℕ) → kinds_ok (suc m) (drop p b) ≡ (kinds_ok 1 (drop p b) && kinds_ok m (drop (p + 5) b))
 unfolding kinds_ok
-kind_next p m b = rw (get_or-drop p b 0 0, add-zero, drop-drop 5 p b)
+kinds_more p m b = rw (drop-drop 5 p b) (by (leb (get_or (drop p b) 0 0) 1) (kinds_ok m (drop (p + 5) b)))
+  where
+    by : (t u : Bool) → (t && u) ≡ ((t && true) && u)
+    by true u = refl
+    by false u = refl
 
 pub kinds_next : (b : List ℕ) (i : ℕ) → i < 99
-    → kinds_ok (99 - i) (drop (4 + 5 * i) b) ≡ (leb (get_or b (4 + 5 * i) 0) 1 && kinds_ok (99 - (i + 1)) (drop (4 + 5 * (i + 1)) b))
+    → kinds_ok (99 - i) (drop (4 + 5 * i) b) ≡ (kinds_ok 1 (drop (4 + 5 * i) b) && kinds_ok (99 - (i + 1)) (drop (4 + 5 * (i + 1)) b))
 kinds_next b i h =
     let q : 4 + 5 * (i + 1) ≡ 4 + 5 * i + 5 = omega arith in
     let m : 99 - i ≡ suc (99 - (i + 1)) = omega arith in
-    rw (q, m) (kind_next (4 + 5 * i) (99 - (i + 1)) b)
+    rw (q, m) (kinds_more (4 + 5 * i) (99 - (i + 1)) b)
 
 pub kinds_end : (b : List ℕ) (i : ℕ) → 99 ≤ i → kinds_ok (99 - i) (drop (4 + 5 * i) b) ≡ true
 unfolding kinds_ok

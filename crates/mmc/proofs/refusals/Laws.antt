@@ -5,13 +5,12 @@ use mathlib.Core.List.{List}
 use Prim.Native.Nat.{ℕ}
 use native.Mathlib.Omega.{arith}
 use lib.Dec.{eqb}
+use Rattle.std.specs.Prelude.{Result, Err}
 use borrow.Author.Tests.{eqb-true}
 use Rattle.basics.specs.Bytes.{if}
 use Rattle.mmc.specs.Refusals.{Outcome, pass, refuse, unless, number_of, answer_of, buffer_of, Fills}
 use Rattle.mmc.specs.declared.refusals.Refusal.{Refusal}
 use Rattle.mmc.specs.declared.refusals.Refusal.TheVariants.{BlockLength, BlockCheck, FieldValue, ReplyForm, Profile, DiscStatus, TrackInformation, MixedOrKept, ShortTrack, NoRoom, ShortBuffer, DriveFailed, JobEnded, NoCueSheet, OutOfRange, NotErasable, AudioInTao}
-use Rattle.mmc.specs.declared.refusals.Made.{Made}
-use Rattle.mmc.specs.declared.refusals.Made.TheVariants as M
 
 pub numbered : (r : Refusal) → eqb (number_of r) 0 ≡ false
 numbered BlockLength = refl
@@ -33,11 +32,11 @@ numbered NotErasable = refl
 numbered AudioInTao = refl
 
 -- what a maker promises of some bytes, it promises of all that are equal
-pub fills_of : {x y : Outcome (List ℕ)} {r : Made} {before after : List ℕ} → y ≡ x → Fills x r before after → Fills y r before after
+pub fills_of : {x y : Outcome (List ℕ)} {r : Result ℕ Refusal} {before after : List ℕ} → y ≡ x → Fills x r before after → Fills y r before after
 fills_of {r = r} {before = before} {after = after} e f = rw e f
 
 -- a maker that refuses leaves the buffer as it was
-pub fills_not : {y : Outcome (List ℕ)} (r : Refusal) (d : List ℕ) → y ≡ refuse (number_of r) → Fills y (M.Refused r) d d
+pub fills_not : {y : Outcome (List ℕ)} (r : Refusal) (d : List ℕ) → y ≡ refuse (number_of r) → Fills y (Err r) d d
 unfolding answer_of buffer_of
 fills_not r d e = rw e (record { answer = refl; buffer = refl })
 

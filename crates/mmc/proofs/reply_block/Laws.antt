@@ -2,21 +2,21 @@
 use mathlib.Core.Path.{◌≡◌, refl, sym, ap, ◌∙◌}
 use mathlib.Core.List.{List, [], ◌∷◌, ◌++◌, append_assoc}
 use mathlib.Core.Bool.{Bool, true, false, ◌&&◌}
-use Prim.Native.Nat.{ℕ, zero, suc, ◌+◌, ◌*◌, ◌-◌, ◌/◌, ◌%◌, ◌≤◌, min}
-use native.Mathlib.Decide.{dec_le}
-use native.Mathlib.Nat.{min-eq_left, min-eq_right}
+use Prim.Native.Nat.{ℕ, zero, suc, ◌+◌, ◌*◌, ◌-◌, ◌/◌, ◌%◌, ◌≤◌}
 use native.Mathlib.Omega.{arith}
 use borrow.Author.Tests.{eqb-true, leb-true, le-leb}
 use lib.Dec.{eqb, leb}
 use lib.ListN.{length, get_or, take, drop, replicate, length-append, length-drop}
 use lib.Seq.{take_at, drop_at, take-add, drop-drop, length-take-le}
-use Rattle.basics.specs.Bytes.{if, bytes16, all_zero}
+use Rattle.std.specs.Int.{to_be_bytes, w16}
+use Rattle.basics.specs.Bytes.{if, bytes16, all_zero, put_at}
 use Rattle.mmc.specs.Refusals.{pass, refuse}
 use Rattle.mmc.specs.Block.{sealed, check_sum, block_fault}
 use Rattle.mmc.specs.ReplyBlock.{Reply, status_byte, reply_head, reply_body, reply_bytes, reply_block, data_length, reply_ok, reply_in, read_reply}
-use Rattle.basics.proofs.Tests.{both, known}
+use Rattle.std.proofs.lemmas.Bool.{and_parts}
+use Rattle.basics.proofs.Tests.{known}
 use Rattle.basics.proofs.Lists.{zeros, zeros_length, drop_zeros, take_zeros}
-use Rattle.basics.proofs.Bytes.{Bytes, zeros_are, zeros_zero}
+use Rattle.basics.proofs.Bytes.{Bytes, zeros_are, zeros_zero, be_bytes16, put_next}
 use Rattle.mmc.proofs.block.Laws.{sealed_ok, sealed_is, fault_length, read_listed, read_passed}
 
 -- ---- the status
@@ -38,6 +38,13 @@ status_is (suc zero) h = refl
 status_is (suc (suc n)) h = absurd (omega arith)
 
 -- ---- what is written
+
+-- the head, put before the data
+pub head_put : (x : Reply) (d s two : List ℕ) (status : ℕ) → length x.bytes ≤ 506 → s ≡ x.bytes → status ≡ status_byte x.good → two ≡ to_be_bytes w16 (length s) → put_at (put_at d 0 (2 ∷ status ∷ get_or two 0 0 ∷ get_or two 1 0 ∷ [])) 4 s ≡ reply_head x ++ drop (4 + length x.bytes) d
+unfolding reply_head
+head_put x d s two status few es eg et =
+    let head : List ℕ = 2 ∷ status_byte x.good ∷ bytes16 (length x.bytes) in
+    rw (et, es, be_bytes16 (length x.bytes) (omega arith), eg, put_next [] d head 0 refl) (put_next head d x.bytes 4 refl)
 
 module _ (x : Reply) (few : length x.bytes ≤ 506) where
   head_length : length (reply_head x) ≡ 4 + length x.bytes
@@ -120,9 +127,9 @@ body_is (a ∷ s ∷ []) u n f = absurd (omega arith)
 body_is (a ∷ s ∷ h ∷ []) u n f = absurd (omega arith)
 body_is (a ∷ s ∷ h ∷ l ∷ r) u n f =
     let k : ℕ = h * 256 + l in
-    let p = both (eqb a 2) (leb s _ && (leb k 506 && all_zero (take (506 - k) (drop (4 + k) (a ∷ s ∷ h ∷ l ∷ r))))) f in
-    let q = both (leb s _) (leb k 506 && all_zero (take (506 - k) (drop (4 + k) (a ∷ s ∷ h ∷ l ∷ r)))) p.1 in
-    let z = both (leb k 506) (all_zero (take (506 - k) (drop (4 + k) (a ∷ s ∷ h ∷ l ∷ r)))) q.1 in
+    let p = and_parts (eqb a 2) (leb s _ && (leb k 506 && all_zero (take (506 - k) (drop (4 + k) (a ∷ s ∷ h ∷ l ∷ r))))) f in
+    let q = and_parts (leb s _) (leb k 506 && all_zero (take (506 - k) (drop (4 + k) (a ∷ s ∷ h ∷ l ∷ r)))) p.1 in
+    let z = and_parts (leb k 506) (all_zero (take (506 - k) (drop (4 + k) (a ∷ s ∷ h ∷ l ∷ r)))) q.1 in
     let m : k ≤ 506 = leb-true k 506 z.0 in
     let len : length (take k r) ≡ k = length-take-le k r (omega arith) in
     let gap : List ℕ = take (506 - k) (drop k r) in
@@ -135,22 +142,6 @@ body_is (a ∷ s ∷ h ∷ l ∷ r) u n f =
     (rw (len, hi, lo, t, eqb-true a 2 p.0, status_is s (omega (arith, leb-true s _ q.0))), omega (arith, len))
 
 -- ---- the zeros behind the data
-
--- up to byte 509, also where a block says that it holds too much
-pub behind : (b : List ℕ) (e : ℕ) → e ≡ min (4 + data_length b) 510 → take (510 - e) (drop e b) ≡ take (506 - data_length b) (drop (4 + data_length b) b)
-behind b e p = of (dec_le (4 + data_length b) 510)
-  where
-    of : Dec (4 + data_length b ≤ 510) → take (510 - e) (drop e b) ≡ take (506 - data_length b) (drop (4 + data_length b) b)
-    of (yes h) =
-        let f : e ≡ 4 + data_length b = p ∙ min-eq_left h in
-        let g : 510 - e ≡ 506 - data_length b = omega arith in
-        rw (g, f)
-    of (no h) =
-        let k : 510 ≤ 4 + data_length b = omega arith in
-        let f : e ≡ 510 = p ∙ min-eq_right k in
-        let g : 510 - e ≡ 0 = omega arith in
-        let z : 506 - data_length b ≡ 0 = omega arith in
-        rw (g, z)
 
 -- only zeros stand behind the bytes that are summed
 pub summed : (b : List ℕ) (e n : ℕ) (so : Bool) → e ≤ 510 → so ≡ all_zero (take (510 - e) (drop e b)) → n ≡ if so e 510 → (n ≤ 510) × (all_zero (take (510 - n) (drop n b)) ≡ true)

@@ -5,15 +5,23 @@ use mathlib.Core.Bool.{Bool, true, false, not, ◌&&◌, ◌||◌}
 use Prim.Native.Nat.{ℕ, ◌+◌, ◌*◌, ◌≤◌, ◌<◌}
 use native.Mathlib.Omega.{arith}
 use lib.IntN.{pos}
-use lib.ListN.{length, get_or, take, drop, length-append}
-use lib.Seq.{length-take-le, drop-drop}
+use native.Mathlib.Numerals.{add-one}
+use lib.ListN.{length, get_or, take, drop, length-append, drop_of_length-le, length-take}
+use lib.Seq.{length-take-le, drop-drop, drop-cons}
+use lib.Dec.{eqb}
 use borrow.Author.Tests.{le-leb, ltb-false}
+use Rattle.std.specs.Prelude.{Result, Ok, Err}
+use Rattle.std.specs.Result.{is_err}
+use Rattle.std.proofs.lemmas.Bool.{false≢true}
+use Rattle.mmc.specs.Refusals.{fault_in}
+use Rattle.mmc.proofs.refusals.Laws.{numbered}
+use Rattle.mmc.specs.declared.refusals.Refusal.{Refusal}
 use Rattle.basics.specs.Bytes.{put_at, if}
 use Rattle.basics.proofs.Bytes.{put_next, put_take, put_drop}
 use Rattle.mmc.specs.Order.{no_track, valid_order, all_kind, all_long, blocks_of, tracks_in, order_kind, is_sao, mixed_or_kept, overlong}
 use Rattle.mmc.specs.Sheet.{cue_entry, lead_in_entry, pause_entry, start_entry, lead_out_entry, next_track, behind as beyond, track_entries, all_entries, sheet_of, sheet_bytes, sheet_fault, HasRoom}
 use Rattle.mmc.specs.Times.{in_range, last_address}
-use Rattle.mmc.proofs.order.Tracks.{in_next, in_end, blocks_next, valid_few}
+use Rattle.mmc.proofs.order.Tracks.{valid_few}
 use Rattle.mmc.specs.declared.units.BlockAddress.{BlockAddress}
 use Rattle.mmc.specs.declared.units.TrackNumber.{TrackNumber}
 use Rattle.mmc.specs.declared.order.Order.{Order}
@@ -31,16 +39,14 @@ pub has_time_lem : (n : ℕ) → n ≤ last_address → in_range (address n) ≡
 unfolding in_range
 has_time_lem n h = le-leb n _ h
 
--- ---- one more entry
-
-pub entries_next : (ts : List Track) (n i : ℕ) → i < n → n ≤ length ts → (x : Kind) (m : TrackNumber) (at : BlockAddress)
-    → track_entries x m at (drop i (take n ts)) ≡ start_entry x m at ++ track_entries x (next_track m) (beyond at (get_or ts i no_track).length) (drop (i + 1) (take n ts))
+entries_first : (k : Kind) (n : TrackNumber) (at : BlockAddress) (t : Track) (ts : List Track)
+    → track_entries k n at (t ∷ ts) ≡ start_entry k n at ++ track_entries k (next_track n) (beyond at t.length) ts
 unfolding track_entries
-entries_next ts n i h k x m at = ap (track_entries x m at) (in_next ts n i h k)
+entries_first k n at t ts = refl
 
-pub entries_end : (ts : List Track) (n i : ℕ) → n ≤ i → n ≤ length ts → (x : Kind) (m : TrackNumber) (at : BlockAddress) → track_entries x m at (drop i (take n ts)) ≡ lead_out_entry x at
-unfolding track_entries
-entries_end ts n i h k x m at = ap (track_entries x m at) (in_end ts n i h k)
+blocks_first : (t : Track) (ts : List Track) → blocks_of (t ∷ ts) ≡ t.length.0 + blocks_of ts
+unfolding blocks_of
+blocks_first t ts = refl
 
 -- each entry has 8 bytes
 pub start_length : (k : Kind) (n : TrackNumber) (at : BlockAddress) → length (start_entry k n at) ≡ 8
@@ -59,75 +65,78 @@ entries_length k n at (t ∷ ts) =
     let r : List ℕ = track_entries k (next_track n) (beyond at t.length) ts in
     omega (arith, length-append e r, start_length k n at, entries_length k (next_track n) (beyond at t.length) ts)
 
--- ---- the loop that puts the tracks: what is put and what is left are the whole, and nothing behind is touched
+-- ---- the loop that puts the tracks: with what is left put behind what is put, the buffer is that with all of them put
 
-pub record Putting (k : Kind) (n : ℕ) (ts : List Track) (out₀ out : List ℕ) (at : BlockAddress) (i : ℕ) : Type 0 where
-  pub within : i ≤ n
-  pub few : n ≤ 99
-  pub all : length ts ≡ 99
+pub record Putting (k : Kind) (ts : List Track) (out₀ out : List ℕ) (at : BlockAddress) (i : ℕ) : Type 0 where
   pub long : length out ≡ length out₀
-  pub room : 8 * (n + 3) ≤ length out₀
+  pub room : 8 * (length ts + 3) ≤ length out₀
   pub sum : ℕ
   pub stands : at ≡ address sum
-  pub ends : sum + blocks_of (drop i (take n ts)) ≤ last_address
-  pub front : take (16 + 8 * i) out ++ track_entries k (number (i + 1)) at (drop i (take n ts)) ≡ take 16 out₀ ++ track_entries k (number 1) (address 0) (take n ts)
-  pub behind : drop (16 + 8 * i) out ≡ drop (16 + 8 * i) out₀
+  pub ends : sum + blocks_of (drop i ts) ≤ last_address
+  pub left :
+      put_at out (16 + 8 * i) (track_entries k (number (i + 1)) at (drop i ts))
+      ≡ put_at out₀ 16 (track_entries k (number 1) (address 0) ts)
 
-pub putting_start : (k : Kind) (n : ℕ) (ts : List Track) (out : List ℕ) → n ≤ 99 → length ts ≡ 99 → 8 * (n + 3) ≤ length out → blocks_of (take n ts) ≤ last_address → Putting k n ts out out (address 0) 0
-putting_start k n ts out f a r e = record { within = omega arith; few = f; all = a; long = refl; room = r; sum = 0; stands = refl; ends = omega (arith, e); front = refl; behind = refl }
+pub putting_start : (k : Kind) (o : Order) (ts : List Track) (out : List ℕ)
+    → HasRoom o (length out) → ts ≡ tracks_in o → Putting k ts out out (address 0) 0
+putting_start k o ts out h e =
+    let few : length ts ≤ o.count = rw e (omega (arith, length-take o.count o.tracks)) in
+    let ends : 0 + blocks_of (drop 0 ts) ≤ last_address = rw e (omega (arith, h.ends)) in
+    record { long = refl; room = omega (arith, few, h.holds); sum = 0; stands = refl; ends = ends; left = refl }
 
-module _ (k : Kind) (n : ℕ) (ts : List Track) (out₀ out : List ℕ) (at : BlockAddress) (i : ℕ) (p : Putting k n ts out₀ out at i) where
+-- what is put, in its three parts
+parts : (d : List ℕ) (p : ℕ) (s : List ℕ) → put_at d p s ≡ take p d ++ s ++ drop (p + length s) d
+unfolding put_at
+parts d p s = refl
+
+-- what is put in two parts
+put_twice : (d s t : List ℕ) (p q : ℕ) → p + length s ≤ length d → q ≡ p + length s
+    → put_at (put_at d p s) q t ≡ put_at d p (s ++ t)
+put_twice d s t p q h e =
+    let n : q + length t ≡ p + length (s ++ t) = omega (arith, length-append s t) in
+    let a : take q (put_at d p s) ≡ take p d ++ s = put_take d s p q h e in
+    let b : drop (q + length t) (put_at d p s) ≡ drop (p + length (s ++ t)) d =
+    sym (drop-drop (length t) q (put_at d p s))
+    ∙ ap (drop (length t)) (put_drop d s p q h e)
+    ∙ drop-drop (length t) q d
+    ∙ ap (λ (j : ℕ). drop j d) n in
+    rw (parts (put_at d p s) q t, a, b, parts d p (s ++ t)) (simp append_assoc)
+
+module _ (k : Kind) (ts : List Track) (out₀ out : List ℕ) (at : BlockAddress) (i : ℕ) (p : Putting k ts out₀ out at i) where
   pub at_time : in_range at ≡ true
   at_time = rw p.stands (has_time_lem p.sum (omega (arith, p.ends)))
 
-  pub putting_next : i < n → (at' : BlockAddress) → at' ≡ beyond at (get_or ts i no_track).length → (s out' : List ℕ) → s ≡ start_entry k (number (i + 1)) at → out' ≡ put_at out (16 + 8 * i) s → length out' ≡ length out
-      → Putting k n ts out₀ out' at' (i + 1)
-  putting_next h at' ea s out' es eo n' =
-      let m : n ≤ length ts = omega (arith, p.few, p.all) in
-      let s8 : length s ≡ 8 = ap length es ∙ start_length k (number (i + 1)) at in
-      let fit : 16 + 8 * i + length s ≤ length out = omega (arith, p.room, p.long) in
-      let q : 16 + 8 * (i + 1) ≡ 16 + 8 * i + length s = omega arith in
-      let q8 : 16 + 8 * (i + 1) ≡ 16 + 8 * i + 8 = omega arith in
-      let rest : List ℕ = track_entries k (number (i + 1 + 1)) at' (drop (i + 1) (take n ts)) in
-      let left : track_entries k (number (i + 1)) at (drop i (take n ts)) ≡ s ++ rest = rw (es, ea) (entries_next ts n i h m k (number (i + 1)) at) in
+  pub putting_next : i < length ts → (out' : List ℕ)
+      → out' ≡ put_at out (16 + 8 * i) (start_entry k (number (i + 1)) at) → length out' ≡ length out
+      → Putting k ts out₀ out' (beyond at (get_or ts i no_track).length) (i + 1)
+  putting_next h out' eo n' =
+      let t : Track = get_or ts i no_track in
+      let s : List ℕ = start_entry k (number (i + 1)) at in
+      let rest : List ℕ = track_entries k (number (i + 1 + 1)) (beyond at t.length) (drop (i + 1) ts) in
+      let s8 : length s ≡ 8 = start_length k (number (i + 1)) at in
+      let one : drop i ts ≡ t ∷ drop (i + 1) ts = rw (add-one, drop-cons ts i no_track h) refl in
+      let here : track_entries k (number (i + 1)) at (drop i ts) ≡ s ++ rest =
+      ap (track_entries k (number (i + 1)) at) one ∙ entries_first k (number (i + 1)) at t (drop (i + 1) ts) in
+      let fit : 16 + 8 * i + length s ≤ length out = omega (arith, p.room, p.long, s8) in
+      let both_put : put_at out' (16 + 8 * (i + 1)) rest ≡ put_at out (16 + 8 * i) (s ++ rest) =
+      rw eo (put_twice out s rest (16 + 8 * i) (16 + 8 * (i + 1)) fit (omega (arith, s8))) in
       record {
-        within = omega arith;
-        few = p.few;
-        all = p.all;
         long = n' ∙ p.long;
         room = p.room;
-        sum = p.sum + (get_or ts i no_track).length.0;
-        stands = ea ∙ rw p.stands;
-        ends = omega (arith, p.ends, blocks_next ts n i h m);
-        front =
-            ap (λ (t : List ℕ). t ++ rest) (ap (take (16 + 8 * (i + 1))) eo ∙ put_take out s (16 + 8 * i) (16 + 8 * (i + 1)) fit q)
-            ∙ append_assoc (take (16 + 8 * i) out) s rest
-            ∙ ap (λ (t : List ℕ). take (16 + 8 * i) out ++ t) (sym left)
-            ∙ p.front;
-        behind =
-            ap (drop (16 + 8 * (i + 1))) eo
-            ∙ put_drop out s (16 + 8 * i) (16 + 8 * (i + 1)) fit q
-            ∙ ap (λ (j : ℕ). drop j out) q8
-            ∙ sym (drop-drop 8 (16 + 8 * i) out)
-            ∙ ap (drop 8) p.behind
-            ∙ drop-drop 8 (16 + 8 * i) out₀
-            ∙ ap (λ (j : ℕ). drop j out₀) (sym q8);
+        sum = p.sum + t.length.0;
+        stands = rw p.stands refl;
+        ends = omega (arith, p.ends, ap blocks_of one, blocks_first t (drop (i + 1) ts));
+        left = both_put ∙ ap (put_at out (16 + 8 * i)) (sym here) ∙ p.left;
       }
 
-  pub putting_end : n ≤ i → (s out' : List ℕ) → s ≡ lead_out_entry k at → out' ≡ put_at out (16 + 8 * i) s
-      → out' ≡ put_at out₀ 16 (track_entries k (number 1) (address 0) (take n ts))
-  unfolding put_at
-  putting_end h s out' es eo =
-      let m : n ≤ length ts = omega (arith, p.few, p.all) in
-      let all : List ℕ = track_entries k (number 1) (address 0) (take n ts) in
-      let s8 : length s ≡ 8 = ap length es ∙ out_length k at in
-      let tn : length (take n ts) ≡ n = length-take-le n ts m in
-      let whole : length all ≡ 8 * (n + 1) = entries_length k (number 1) (address 0) (take n ts) ∙ rw tn in
-      let q : 16 + 8 * (n + 1) ≡ 16 + 8 * i + 8 = omega (arith, p.within) in
-      let left : take (16 + 8 * i) out ++ s ≡ take 16 out₀ ++ all = rw (es, ← entries_end ts n i h m k (number (i + 1)) at) p.front in
-      let tail : drop (16 + 8 * i + length s) out ≡ drop (16 + length all) out₀ =
-      rw (s8, whole, q, ← drop-drop 8 (16 + 8 * i) out, ← drop-drop 8 (16 + 8 * i) out₀, p.behind) in
-      eo ∙ rw (left, tail)
+  pub putting_end : i ≡ length ts → (o : Order) → k ≡ order_kind o → ts ≡ tracks_in o → (s out' : List ℕ)
+      → s ≡ lead_out_entry k at → out' ≡ put_at out (16 + 8 * length ts) s
+      → out' ≡ put_at out₀ 16 (all_entries o)
+  unfolding track_entries
+  putting_end h o ek et s out' es eo =
+      let none : drop i ts ≡ [] = drop_of_length-le ts (omega (arith, h)) in
+      let left_out = λ (l : List Track). put_at out (16 + 8 * i) (track_entries k (number (i + 1)) at l) in
+      eo ∙ rw (es, ← h, ← ek, ← et) (ap left_out (sym none) ∙ p.left)
 
 -- ---- the whole sheet
 
@@ -187,3 +196,16 @@ pub has_room : (o : Order) (room : ℕ) → sheet_fault o ≡ 0 → sheet_bytes 
 has_room o room h r =
     let s = sheeted o h in
     record { few = valid_few o s.valid; ends = s.ends; holds = r }
+
+-- a sheet of 99 tracks is the longest
+pub most_room : (o : Order) → sheet_fault o ≡ 0 → HasRoom o 816
+most_room o h = has_room o 816 h (omega (arith, valid_few o (sheeted o h).valid))
+
+-- what a test answers
+pub faultless : {A : Type 0} (r : Result A Refusal) → is_err r ≡ false → fault_in r ≡ 0
+faultless (Ok a) e = refl
+faultless (Err r) e = absurd (false≢true (sym e))
+
+pub faulty : {A : Type 0} (r : Result A Refusal) → is_err r ≡ true → eqb (fault_in r) 0 ≡ false
+faulty (Ok a) e = absurd (false≢true e)
+faulty (Err r) e = numbered r

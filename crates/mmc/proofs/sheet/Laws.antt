@@ -9,16 +9,20 @@ use lib.Dec.{eqb, leb}
 use lib.ListN.{length, get_or, take, drop, replicate, take-append-drop, length-drop, length-map}
 use lib.Seq.{length-take-le, take_at}
 use Rattle.basics.specs.Bytes.{same_bytes}
-use Rattle.basics.proofs.Tests.{false_true, both, known}
+use Rattle.std.proofs.lemmas.Bool.{and_parts, false≢true}
+use Rattle.basics.proofs.Tests.{known}
 use Rattle.basics.proofs.Bytes.{same_is, same_refl}
 use Rattle.mmc.specs.Order.{no_track, is_none, is_audio, is_new, all_none, new_sao, valid_order, same_kind, tracks_in, order_kind, mixed_or_kept, overlong, all_kind, all_long, blocks_of, least_blocks}
 use Rattle.mmc.specs.Times.{first_address, last_address, lead_in_minute, is_time, frames_to, address_at, time_frames, address_at_time, address_of}
-use Rattle.mmc.specs.Sheet.{sheet_fault, control_of, cue_entry, lead_in_entry, pause_entry, start_entry, lead_out_entry, track_entries, all_entries, sheet_of, sheet_bytes, frames_in, kind_in, length_in, lengths_in, no_length, tracks_beside, sheet_in, sheet_size, track_for, order_for, is_sheet, read_sheet, cue_sheet, length_of, sheet_for, times_in, Below, Rising, Ordered, entry_time, minute_in, addresses_in, starts_from}
+use Rattle.mmc.specs.Sheet.{sheet_fault, control_of, cue_entry, lead_in_entry, pause_entry, start_entry, lead_out_entry, track_entries, all_entries, sheet_of, sheet_bytes, frames_in, kind_in, length_in, lengths_in, no_length, tracks_beside, sheet_in, sheet_size, track_for, order_for, is_sheet, read_sheet, cue_sheet, length_of, sheet_for, times_in, Below, Rising, Ordered, entry_time, minute_in, addresses_in, starts_from, MakesSheet}
 use Rattle.mmc.proofs.refusals.Laws.{without_fault}
+use Rattle.mmc.proofs.sheet.Reading.{in_few}
 use Rattle.mmc.proofs.sheet.Entries.{address, number, has_time_lem, entries_length, Sheeted, sheeted}
 use Rattle.mmc.proofs.times.Signed.{range_time}
 use Rattle.mmc.proofs.times.Laws.{stands}
-use Rattle.mmc.specs.Refusals.{Outcome, pass, refuse}
+use Rattle.std.specs.Prelude.{Result}
+use Rattle.mmc.specs.Refusals.{Outcome, pass, refuse, Fills}
+use Rattle.mmc.specs.declared.refusals.Refusal.{Refusal}
 use Rattle.mmc.specs.declared.units.BlockAddress.{BlockAddress}
 use Rattle.mmc.specs.declared.units.BlockCount.{BlockCount}
 use Rattle.mmc.specs.declared.order.Order.{Order}
@@ -60,18 +64,18 @@ lengths_back k n at (t ∷ ts) = rw (one_back k n at t ts, rest k n at t ts, len
 
 none_is : (t : Track) → is_none t ≡ true → t ≡ no_track
 none_is t e =
-    let w = both (is_audio t.kind) (eqb t.length.0 0) e in
+    let w = and_parts (is_audio t.kind) (eqb t.length.0 0) e in
     rw (audio t.kind w.0, eqb-true t.length.0 0 w.1)
   where
     audio : (k : Kind) → is_audio k ≡ true → k ≡ Audio
     audio Audio e = refl
-    audio Data e = absurd (false_true e)
+    audio Data e = absurd (false≢true e)
 
 nones_are : (ts : List Track) → all_none ts ≡ true → ts ≡ replicate (length ts) no_track
 unfolding all_none
 nones_are [] e = refl
 nones_are (t ∷ ts) e =
-    let w = both (is_none t) (all_none ts) e in
+    let w = and_parts (is_none t) (all_none ts) e in
     rw (none_is t w.0, ← nones_are ts w.1)
 
 no_lengths : (n : ℕ) → map length_of (replicate n no_track) ≡ replicate n no_length
@@ -80,8 +84,8 @@ no_lengths (suc n) = ap (λ (l : List BlockCount). no_length ∷ l) (no_lengths 
 
 kind_same : (a b : Kind) → same_kind a b ≡ true → a ≡ b
 kind_same Audio Audio e = refl
-kind_same Audio Data e = absurd (false_true e)
-kind_same Data Audio e = absurd (false_true e)
+kind_same Audio Data e = absurd (false≢true e)
+kind_same Data Audio e = absurd (false≢true e)
 kind_same Data Data e = refl
 
 -- tracks of one kind are those of their lengths
@@ -89,7 +93,7 @@ tracks_of_lem : (k : Kind) (ts : List Track) → all_kind k ts ≡ true → map 
 unfolding all_kind
 tracks_of_lem k [] e = refl
 tracks_of_lem k (t ∷ ts) e =
-    let w = both (same_kind k t.kind) (all_kind k ts) e in
+    let w = and_parts (same_kind k t.kind) (all_kind k ts) e in
     rw (tracks_of_lem k ts w.1, kind_same k t.kind w.0)
 
 kind_back : (k : Kind) → kind_in (control_of k) ≡ k
@@ -107,9 +111,9 @@ module _ (o : Order) (z : length o.tracks ≡ 99) (f : sheet_fault o ≡ 0) wher
   few : (1 ≤ o.count) × (o.count ≤ 99) × (all_none (drop o.count o.tracks) ≡ true) × (not (new_sao o) ≡ true)
   unfolding valid_order
   few =
-      let w = both (leb _ o.count) (leb o.count _ && (all_none (drop o.count o.tracks) && not (new_sao o))) s.valid in
-      let v = both (leb o.count _) (all_none (drop o.count o.tracks) && not (new_sao o)) w.1 in
-      let u = both (all_none (drop o.count o.tracks)) (not (new_sao o)) v.1 in
+      let w = and_parts (leb _ o.count) (leb o.count _ && (all_none (drop o.count o.tracks) && not (new_sao o))) s.valid in
+      let v = and_parts (leb o.count _) (all_none (drop o.count o.tracks) && not (new_sao o)) w.1 in
+      let u = and_parts (all_none (drop o.count o.tracks)) (not (new_sao o)) v.1 in
       (omega (arith, leb-true _ o.count w.0), omega (arith, leb-true o.count _ v.0), u.0, u.1)
 
   tracks_are : length (tracks_in o) ≡ o.count
@@ -201,8 +205,8 @@ made b s e = known (is_sheet b) yes' no'
     yes' : is_sheet b ≡ true → cue_sheet (order_for s) ≡ pass b
     yes' t =
         let o : Order = order_for (sheet_in b) in
-        let w = both (sheet_size (length b)) (eqb (sheet_fault o) 0 && same_bytes (sheet_of o) b) t in
-        let v = both (eqb (sheet_fault o) 0) (same_bytes (sheet_of o) b) w.1 in
+        let w = and_parts (sheet_size (length b)) (eqb (sheet_fault o) 0 && same_bytes (sheet_of o) b) t in
+        let v = and_parts (eqb (sheet_fault o) 0) (same_bytes (sheet_of o) b) w.1 in
         let x : pass (sheet_in b) ≡ pass s = simp t at e in
         let y : s ≡ sheet_in b = cc in
         rw (y, v.0, same_is (sheet_of o) b v.1)
@@ -245,7 +249,7 @@ rising_from : (at : ℕ) (ts : List Track) → all_long ts ≡ true → Rising (
 unfolding times_from Rising all_long
 rising_from at [] l = (tt, tt)
 rising_from at (t ∷ ts) l =
-    let w = both (leb least_blocks t.length.0) (all_long ts) l in
+    let w = and_parts (leb least_blocks t.length.0) (all_long ts) l in
     let a : ℕ = at + t.length.0 in
     (below_from (at + 150) a ts (omega (arith, leb-true least_blocks t.length.0 w.0)), rising_from a ts w.1)
 
@@ -328,3 +332,22 @@ late b i h = known (is_sheet b) yes' (λ t. simp t)
         let w = made_of o b (made b (sheet_in b) (simp t)) in
         let l : minute_in i b < lead_in_minute = rw (← w.1) (early o w.0 i) in
         absurd (omega (arith, h, l))
+
+-- what fills a buffer with the sheet of an order is all that is promised of it
+pub makes : (o : Order) {r : Result ℕ Refusal} {before after : List ℕ} → length o.tracks ≡ 99 → Fills (cue_sheet o) r before after
+    → MakesSheet o r before after
+makes o z f =
+    record { filled = f; size = made_length o z; reads_back = reads_back o z; ordered = in_order o z; addresses = addresses o z }
+
+-- the front of what is put
+pub whole : (o : Order) → length o.tracks ≡ 99 → sheet_fault o ≡ 0 → (n : ℕ) → n ≡ sheet_bytes o.count → (l : List ℕ)
+    → take n (sheet_of o ++ l) ≡ sheet_of o
+whole o z f n e l = rw e (take_at (sheet_of o) l (sheet_bytes o.count) (sheet_length o z f))
+
+-- what has no sheet's length is none
+pub none_so_long : (b : List ℕ) → sheet_size (length b) ≡ false → read_sheet b ≡ refuse 14
+unfolding read_sheet is_sheet
+none_so_long b e = simp e
+
+-- what is promised of the sheet that bytes are
+pub ruleset found = (in_few, none_so_long, made, late)

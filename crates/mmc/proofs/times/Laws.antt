@@ -10,7 +10,8 @@ use lib.Dec.{leb}
 use borrow.Author.Tests.{le-leb, lt-leb, leb-true, leb-false, lt-ltb}
 use lib.Signed.{le_z}
 use Rattle.mmc.specs.Times.{first_address, last_address, all_frames, lead_in_minute, lead_in_frames, in_range, has_time, frames_to, address_at, time_frames, address_at_time, clock, is_time, frames_of, time_at, time_of, address_of}
-use Rattle.basics.proofs.Tests.{both, known}
+use Rattle.std.proofs.lemmas.Bool.{and_parts}
+use Rattle.basics.proofs.Tests.{known}
 use Rattle.mmc.specs.Refusals.{pass}
 use Rattle.basics.proofs.Signed.{less}
 use Rattle.mmc.proofs.times.Signed.{frames, range_time, time_range, in_program, in_lead_in, few_frames, deepest, early_frames, before_90, from_90}
@@ -21,8 +22,8 @@ use Rattle.mmc.specs.declared.times.Time.{Time}
 time_parts : (t : Time) → is_time t ≡ true → (t.minute ≤ 99) × (t.second ≤ 59) × (t.frame ≤ 74)
 unfolding is_time
 time_parts t h =
-    let w = both (leb t.minute _) (leb t.second _ && leb t.frame _) h in
-    let v = both (leb t.second _) (leb t.frame _) w.1 in
+    let w = and_parts (leb t.minute _) (leb t.second _ && leb t.frame _) h in
+    let v = and_parts (leb t.second _) (leb t.frame _) w.1 in
     (omega (arith, leb-true t.minute _ w.0), omega (arith, leb-true t.second _ v.0), omega (arith, leb-true t.frame _ v.1))
 
 -- a count of frames as a time, and back

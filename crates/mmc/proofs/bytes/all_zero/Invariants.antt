@@ -1,12 +1,6 @@
-use mathlib.Core.Path.{◌≡◌}
-use mathlib.Core.Bool.{◌&&◌}
-use Prim.Native.Nat.{◌-◌, ◌≤◌}
-use lib.ListN.{length, drop}
-use Rattle.basics.specs.Bytes.{all_zero}
+use Rattle.std.proofs.Common.{◌≡◌, take, nat_eq}
+use Rattle.std.specs.List.{list_all}
 use Rattle.mmc.proofs.bytes.all_zero.Given as goal
 
-abbrev pub invariant-loop-i : goal.invariant-loop-i
-invariant-loop-i l = (l.i ≤ length l.s) × ((l.zero && all_zero (drop l.i l.s)) ≡ all_zero l.s)
-
-abbrev pub decreases-loop-i : goal.decreases-loop-i
-decreases-loop-i l = length l.s - l.i
+abbrev pub invariant-loop-x : goal.invariant-loop-x
+invariant-loop-x l = l.zero ≡ list_all (λ x. nat_eq x 0) (take l.x-index l.s)

@@ -1,42 +1,37 @@
-use mathlib.Core.Path.{sym, ap, ◌∙◌}
-use Prim.Native.Nat.{◌≤◌}
-use native.Mathlib.Omega.{arith}
-use Rattle.basics.specs.Bytes.{all_zero}
-use Rattle.mmc.specs.Refusals.{fault_in}
+use Rattle.std.proofs.Common.{◌≡◌, sym, ap, ◌∙◌, arith, rules}
+use Rattle.std.proofs.lemmas.Grind.{common_steps}
+use Rattle.mmc.specs.Block.{block_fault}
 use Rattle.mmc.specs.ReplyBlock.{read_reply, reply_ok, reply_in}
-use Rattle.mmc.specs.declared.refusals.Refusal.TheVariants.{BlockLength}
-use Rattle.mmc.proofs.block.Laws.{wrong_length, read_faulty}
-use Rattle.mmc.proofs.reply_block.Laws.{behind, summed, written}
+use Rattle.mmc.proofs.block.Laws.{wrong_length, read_faulty, read_whole}
+use Rattle.mmc.proofs.reply_block.Laws.{summed, written}
 use Rattle.mmc.proofs.reply_block.read_reply.Goals as goal
 
-pub returns-then-b-ne512 : goal.returns-then-b-ne512
+pub returns-in_err-block : goal.returns-in_err-block
 unfolding read_reply
-returns-then-b-ne512 c =
+returns-in_err-block c =
     let b = c.args.b.now in
-    record {
-      answer = sym (read_faulty b (reply_ok b) (reply_in b) BlockLength (wrong_length b c.if-b-ne512.true));
-      written = written b (λ i. (c.shared_slice_known-1.given i).fits);
-    }
+    let w = c.in_err-block.ensures.refusal in
+    let f = read_faulty b (reply_ok b) (reply_in b) c.in_err-block.field-0.0 (rw (w.0) (wrong_length b w.1)) in
+    record { answer = grind (arith, common_steps); written = written b (search rules) }
 
-pub check_first-check-requires : goal.check_first-check-requires
-check_first-check-requires c =
-    let b = c.args.b.now in
-    let h : c.data_end-end.result ≤ 510 = omega arith in
-    let s = summed b c.data_end-end.result c.filled.result c.all_zero-zero.result h c.all_zero-zero.ensures c.filled.ensures in
-    (c.if-b-ne512.false, s.0, s.1)
+pub check_first-requires : goal.check_first-requires
+check_first-requires c =
+    summed c.in_ok-block.block.now c.data_end-end.result c.filled.result c.all_zero-zero.result (omega arith) c.all_zero-zero.ensures c.filled.ensures
 
-pub read_fields-requires : goal.read_fields-requires
-read_fields-requires c =
-    let b = c.args.b.now in (
-      sym c.check_first-check.ensures ∙ ap fault_in c.in-Passed.is,
-      c.all_zero-zero.ensures ∙ ap all_zero (behind b c.data_end-end.result c.data_end-end.ensures),
-    )
-
-pub returns-in-Refused : goal.returns-in-Refused
+pub returns-in_err-check_first : goal.returns-in_err-check_first
 unfolding read_reply
-returns-in-Refused c =
+returns-in_err-check_first c =
     let b = c.args.b.now in
+    let e = ap block_fault (sym c.in_ok-block.ensures.block) ∙ sym c.in_err-check_first.ensures in
+    let f = read_faulty b (reply_ok b) (reply_in b) c.in_err-check_first.field-0.0 e in
+    record { answer = grind (arith, common_steps); written = written b (search rules) }
+
+pub returns : goal.returns
+unfolding read_reply
+returns c =
+    let b = c.args.b.now in
+    let e : block_fault b ≡ 0 = ap block_fault (sym c.in_ok-block.ensures.block) ∙ sym c.in_ok-check_first.ensures in
     record {
-      answer = sym (read_faulty b (reply_ok b) (reply_in b) c.in-Refused.r (sym c.check_first-check.ensures ∙ ap fault_in c.in-Refused.is));
-      written = written b (λ i. (c.shared_slice_known-1.given i).fits);
+      answer = rw (c.in_ok-block.ensures.block) at c.read_fields.ensures ∙ sym (read_whole b (reply_ok b) (reply_in b) e);
+      written = written b (search rules);
     }

@@ -1,11 +1,7 @@
-use Prim.Native.Nat.{◌-◌}
-use lib.ListN.{drop}
+use Rattle.std.proofs.Common.{◌≡◌, ◌++◌, ◌-◌, replicate}
+use Rattle.mmc.specs.Order.{most_tracks}
 use Rattle.mmc.specs.Sheet.{lengths_in, no_length}
-use Rattle.mmc.proofs.sheet.Reading.{Filling}
 use Rattle.mmc.proofs.sheet.lengths_in.Given as goal
 
 abbrev pub invariant-loop-i : goal.invariant-loop-i
-invariant-loop-i l = Filling no_length l.n (lengths_in l.n (drop 16 l.b)) l.lengths l.i
-
-abbrev pub decreases-loop-i : goal.decreases-loop-i
-decreases-loop-i l = l.n - l.i
+invariant-loop-i l = l.lengths ≡ lengths_in l.i l.b ++ replicate (most_tracks - l.i) no_length

@@ -1,9 +1,5 @@
-use Prim.Native.Nat.{◌-◌}
 use Rattle.mmc.proofs.sheet.Entries.{Putting}
 use Rattle.mmc.proofs.sheet.put_tracks.Given as goal
 
 abbrev pub invariant-loop-i : goal.invariant-loop-i
-invariant-loop-i l = Putting l.kind l.n l.tracks l.initial.out l.out l.at l.i
-
-abbrev pub decreases-loop-i : goal.decreases-loop-i
-decreases-loop-i l = l.n - l.i
+invariant-loop-i l = Putting l.kind l.tracks l.initial.out l.out l.at l.i
