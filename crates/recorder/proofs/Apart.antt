@@ -22,7 +22,8 @@ use Rattle.recorder.specs.Replies.{reading}
 use Rattle.recorder.specs.Script.{count_in, stepwise}
 use Rattle.recorder.specs.Exchanges.{Exchange, upward, occupied, start_at, past, see, seen}
 use Rattle.recorder.specs.Rules.{unusable, needed, fits, opening_tests, later_tests, track_tests, judge, judged, Found, none, found, refused_by, first_refused}
-use Rattle.recorder.proofs.Lists.{false_true, none_found, neither, frames_back, Clear, passed_clear, Under, nowhere, under_more, under_upward, under_rises}
+use Rattle.std.proofs.lemmas.Bool.{false≢true, or_parts}
+use Rattle.recorder.proofs.Lists.{none_found, frames_back, Clear, passed_clear, Under, nowhere, under_more, under_upward, under_rises}
 use Rattle.recorder.proofs.Turns.{made, Played, nothing, then, Asks, a46, a51, a52, a03, Reads, busy, not_ready_lem, failed, malformed, profile, status, information, indication, ready, unread, reads}
 use Rattle.recorder.proofs.Rulings.{unrefused_last}
 
@@ -38,16 +39,16 @@ passed o t v i c = go (eqb t 1) o.erase refl refl c
   where
     go : (a b : Bool) → eqb t 1 ≡ a → o.erase ≡ b → Clear (if (a && not b) (opening_tests o t v i) (later_tests o t v i)) → Passed o t v i
     go true false e f c = record { usable = c.1.1.0; fitting = c.1.1.1.1.1.1.0; opening = λ q h. c }
-    go true true e f c = record { usable = c.0; fitting = c.1.0; opening = λ q h. absurd (false_true (sym h ∙ f)) }
-    go false b e f c = record { usable = c.0; fitting = c.1.0; opening = λ q h. absurd (false_true (sym e ∙ q)) }
+    go true true e f c = record { usable = c.0; fitting = c.1.0; opening = λ q h. absurd (false≢true (sym h ∙ f)) }
+    go false b e f c = record { usable = c.0; fitting = c.1.0; opening = λ q h. absurd (false≢true (sym e ∙ q)) }
 
 -- the next block never goes back
 start_above : (m : Method) (at : FrameCount) (i : TrackInformation) → unusable m at i ≡ false → at.0 ≤ (start_at m at i).0
 unfolding unusable
-start_above m at i e = go (stepwise m) (neither i.damaged _ e).1
+start_above m at i e = go (stepwise m) (or_parts i.damaged _ e).1
   where
     go : (b : Bool) → b && (not i.addressed || ltb (frames_to i.address).0 at.0) ≡ false → at.0 ≤ (if b (frames_to i.address) at).0
-    go true e = ltb-false _ _ (neither (not i.addressed) _ e).1
+    go true e = ltb-false _ _ (or_parts (not i.addressed) _ e).1
     go false e = omega arith
 
 pub past_count : (x : Op) (at : FrameCount) → (past x at).0 ≡ at.0 + count_in x

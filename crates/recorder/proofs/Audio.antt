@@ -21,7 +21,8 @@ use Rattle.recorder.specs.Script.{is_erasing, before_tracks, each_track, script}
 use Rattle.recorder.specs.Exchanges.{Exchange, erased, seen}
 use Rattle.recorder.specs.Rules.{audio_by, audio_in_tao, used, Judgement, tested, erasing_tests, blank_tests, disc_tests, erases, erasing_if, opening_tests, later_tests, judge, judged, move, left}
 use Rattle.recorder.specs.History.{Each, HasAudio, is_opening, OnlyOpens}
-use Rattle.recorder.proofs.Lists.{false_true, clash, never, tested_by}
+use Rattle.std.proofs.lemmas.Bool.{false≢true}
+use Rattle.recorder.proofs.Lists.{clash, never, tested_by}
 use Rattle.recorder.proofs.Turns.{a03, not_ready_lem, indication, ready, made, Played, nothing, then, Reads, busy, failed, malformed, a46, a51, a52, profile, status, information, unread, reads, erased_seen}
 use Rattle.recorder.proofs.Scripts.{by}
 
@@ -40,7 +41,7 @@ first_found x xs Data q e f =
 
 audio_found : (xs : List Track) → all_kind Data xs ≡ false → HasAudio xs
 unfolding all_kind
-audio_found [] e = absurd (false_true (sym e))
+audio_found [] e = absurd (false≢true (sym e))
 audio_found (x ∷ xs) e = first_found x xs x.kind refl e (audio_found xs)
 
 audio_applies : (o : Order) → o.method ≡ Tao → HasAudio (tracks_in o) → audio_in_tao o ≡ true
@@ -49,7 +50,7 @@ audio_applies o e a =
     ap (λ (xs : List Track). not (all_kind Data xs)) a.among ∙ ap not (audio_among a.before a.after a.track a.is_audio)
 
 pub no_audio_so : (o : Order) → audio_in_tao o ≡ false → o.method ≡ Tao → HasAudio (tracks_in o) → ⊥
-no_audio_so o c e a = false_true (sym c ∙ audio_applies o e a)
+no_audio_so o c e a = false≢true (sym c ∙ audio_applies o e a)
 
 pub audio_clear : (o : Order) → (o.method ≡ Tao → HasAudio (tracks_in o) → ⊥) → audio_in_tao o ≡ false
 audio_clear o n = go o.method n
@@ -92,29 +93,29 @@ module _ (o : Order) (a : audio_in_tao o ≡ true) (v : Seen) where
   at_disc d l n false = at_52 refl
   at_disc d l n true =
       subst (λ (b : Bool). Opens true (move (tested (if b (blank_tests d) (erasing_tests o v.profile d)) (erasing_if (not b && used d.status))) (ReadDiscInformation ∷ first52 ∷ l))) (sym n)
-      (tested_by (λ (j : Judgement). Opens true (move j (ReadDiscInformation ∷ first52 ∷ l))) (erasing_tests o v.profile d) _ (λ c. absurd (false_true (sym c.1.1.0 ∙ a))) (λ k. at_51))
+      (tested_by (λ (j : Judgement). Opens true (move j (ReadDiscInformation ∷ first52 ∷ l))) (erasing_tests o v.profile d) _ (λ c. absurd (false≢true (sym c.1.1.0 ∙ a))) (λ k. at_51))
 
   at_track : (i : TrackInformation) (l : List Op) (b : Bool) → b ≡ false → Opens b (move (tested (if (not b) (opening_tests o 1 v i) (later_tests o 1 v i)) []) (first52 ∷ l))
-  at_track i l true e = absurd (false_true (sym e))
+  at_track i l true e = absurd (false≢true (sym e))
   at_track i l false e =
-      tested_by (λ (j : Judgement). Opens false (move j (first52 ∷ l))) (opening_tests o 1 v i) [] (λ c. absurd (false_true (sym c.1.1.1.0 ∙ a))) (λ k. at_52 refl)
+      tested_by (λ (j : Judgement). Opens false (move j (first52 ∷ l))) (opening_tests o 1 v i) [] (λ c. absurd (false≢true (sym c.1.1.1.0 ∙ a))) (λ k. at_52 refl)
 
   opens_by : (x : Op) (l : List Op) (g : Bool) (r : Reading) → v.erased ≡ false → Reads x g r → Opens o.erase (x ∷ l) → Opens o.erase (move (judge o v x r) (x ∷ l))
   opens_by x l g r n (busy i) at_46 = at_46
   opens_by x l g r n failed at_46 = at_46
   opens_by x l g r n (malformed a46) at_46 = at_46
   opens_by x l g r n profile at_46 = at_51
-  opens_by x l g r n (unread q i) at_46 = absurd (false_true (sym q))
+  opens_by x l g r n (unread q i) at_46 = absurd (false≢true (sym q))
   opens_by x l g r n (busy i) at_51 = at_51
   opens_by x l g r n failed at_51 = at_51
   opens_by x l g r n (malformed a51) at_51 = at_51
   opens_by x l g r n (status {d = d}) (at_51 {l = k}) = at_disc d k n o.erase
-  opens_by x l g r n (unread q i) at_51 = absurd (false_true (sym q))
+  opens_by x l g r n (unread q i) at_51 = absurd (false≢true (sym q))
   opens_by x l g r n (busy i) (at_52 e) = at_52 e
   opens_by x l g r n failed (at_52 e) = at_52 e
   opens_by x l g r n (malformed a52) (at_52 e) = at_52 e
   opens_by x l g r n (information {i = i}) (at_52 e) = at_track i l o.erase e
-  opens_by x l g r n (unread q i) (at_52 e) = absurd (false_true (sym q))
+  opens_by x l g r n (unread q i) (at_52 e) = absurd (false≢true (sym q))
   opens_by x l g r n not_ready_lem s = elim s [ ]
   opens_by x l g r n (malformed a03) s = elim s [ ]
   opens_by x l g r n indication s = elim s [ ]

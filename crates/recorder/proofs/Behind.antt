@@ -19,9 +19,9 @@ use Rattle.mmc.specs.declared.order.Recipe.{Recipe}
 use Rattle.mmc.specs.declared.order.Recipe.TheVariants.{Old, New}
 use Rattle.recorder.specs.declared.script.Op.{Op}
 use Rattle.recorder.specs.declared.script.Op.TheVariants.{GetConfiguration, ReadDiscInformation, ReadTrackInformation, ModeSelect, SendCueSheet, Write, SynchronizeCache, CloseTrack, CloseSession, Blank, TestUnitReady, RequestSense}
-use Rattle.recorder.specs.declared.places.Following.{Following}
-use Rattle.recorder.specs.declared.places.Following.TheVariants.{Next as Then, Nothing}
-use Rattle.recorder.specs.Script.{write, portion, writes_for, writes, writes_from, before_tracks, close_by, track_by, each_track, script}
+use Rattle.std.specs.declared.option.Option.{Option}
+use Rattle.std.specs.declared.option.Option.TheVariants.{Some, None}
+use Rattle.recorder.specs.Script.{write, portion, writes_for, writes, writes_from, before_tracks, close_by, track_by, each_track}
 use Rattle.recorder.specs.Places.{piece_ended, before_block, after_track, after_synchronize, piece_of, after_in}
 use Rattle.recorder.proofs.Scripts.{by}
 
@@ -71,12 +71,9 @@ behind o Blank = ReadDiscInformation ∷ before_tracks o (tracks_from o 0)
 behind o TestUnitReady = []
 behind o RequestSense = []
 
-abbrev pub onto : Order → Following → List Op
-onto o (Then x) = x ∷ behind o x
-onto o Nothing = []
-
-pub from_start : (o : Order) → script o ≡ GetConfiguration ∷ behind o GetConfiguration
-from_start o = refl
+abbrev pub onto : Order → Option Op → List Op
+onto o (Some x) = x ∷ behind o x
+onto o None = []
 
 -- ---- the next track
 
@@ -112,12 +109,12 @@ Goes Tao o t = Unit {0}
 Goes Sao o t = (t ≤ o.count) × (t < o.count → 0 < piece_of o (suc t))
 
 -- what comes after a piece
-after_piece : (m : Method) (o : Order) (t : ℕ) → length (tracks_in o) ≡ o.count → Goes m o t → tail_by m (by o m) t ≡ onto (by o m) (Then (piece_ended m o.count (piece_of (by o m) (suc t)) t))
+after_piece : (m : Method) (o : Order) (t : ℕ) → length (tracks_in o) ≡ o.count → Goes m o t → tail_by m (by o m) t ≡ onto (by o m) (Some (piece_ended m o.count (piece_of (by o m) (suc t)) t))
 unfolding piece_ended
 after_piece Tao o t n g = refl
 after_piece Sao o t n g = go (ltb t o.count) refl
   where
-    go : (b : Bool) → ltb t o.count ≡ b → tracks_from (by o Sao) t ≡ onto (by o Sao) (Then (if b (write (suc t) 0 (portion (piece_of (by o Sao) (suc t)) 0)) (SynchronizeCache (record { 0 = t }))))
+    go : (b : Bool) → ltb t o.count ≡ b → tracks_from (by o Sao) t ≡ onto (by o Sao) (Some (if b (write (suc t) 0 (portion (piece_of (by o Sao) (suc t)) 0)) (SynchronizeCache (record { 0 = t }))))
     go true q =
         let h : t < o.count = ltb-true _ _ q in
         next_track_lem (by o Sao) t (omega arith) ∙ piece_write (by o Sao) (suc t) 0 (g.1 h)
@@ -127,11 +124,11 @@ after_piece Sao o t n g = go (ltb t o.count) refl
         let e : o.count ≡ t = omega arith in
         no_track_left (by o Sao) t (omega arith) ∙ ap (λ (k : ℕ). SynchronizeCache (record { 0 = k }) ∷ []) e
 
-piece_on : (m : Method) (o : Order) (t f : ℕ) → length (tracks_in o) ≡ o.count → Goes m o t → piece (by o m) t f ≡ onto (by o m) (Then (before_block m o.count (piece_of (by o m) t) (piece_of (by o m) (suc t)) t f))
+piece_on : (m : Method) (o : Order) (t f : ℕ) → length (tracks_in o) ≡ o.count → Goes m o t → piece (by o m) t f ≡ onto (by o m) (Some (before_block m o.count (piece_of (by o m) t) (piece_of (by o m) (suc t)) t f))
 unfolding before_block
 piece_on m o t f n g = go (ltb f (piece_of (by o m) t)) refl
   where
-    go : (b : Bool) → ltb f (piece_of (by o m) t) ≡ b → piece (by o m) t f ≡ onto (by o m) (Then (if b (write t f (portion (piece_of (by o m) t) f)) (piece_ended m o.count (piece_of (by o m) (suc t)) t)))
+    go : (b : Bool) → ltb f (piece_of (by o m) t) ≡ b → piece (by o m) t f ≡ onto (by o m) (Some (if b (write t f (portion (piece_of (by o m) t) f)) (piece_ended m o.count (piece_of (by o m) (suc t)) t)))
     go true q = piece_write (by o m) t f (ltb-true _ _ q)
     go false q = piece_end (by o m) t f (ltb-false _ _ q) ∙ after_piece m o t n g
 
@@ -155,19 +152,19 @@ after_page_lem : (m : Method) (o : Order) (t : ℕ) → length (tracks_in o) ≡
 after_page_lem Tao o t n = piece_on Tao o t 0 n tt
 after_page_lem Sao o t n = refl
 
-after_closed : (o : Order) (t : ℕ) → length (tracks_in o) ≡ o.count → tracks_from (by o Tao) t ≡ onto (by o Tao) (Then (after_track o.count t))
+after_closed : (o : Order) (t : ℕ) → length (tracks_in o) ≡ o.count → tracks_from (by o Tao) t ≡ onto (by o Tao) (Some (after_track o.count t))
 unfolding after_track
 after_closed o t n = go (ltb t o.count) refl
   where
-    go : (b : Bool) → ltb t o.count ≡ b → tracks_from (by o Tao) t ≡ onto (by o Tao) (Then (if b (ReadTrackInformation (record { 0 = suc t })) CloseSession))
+    go : (b : Bool) → ltb t o.count ≡ b → tracks_from (by o Tao) t ≡ onto (by o Tao) (Some (if b (ReadTrackInformation (record { 0 = suc t })) CloseSession))
     go true q = let h : t < o.count = ltb-true _ _ q in next_track_lem (by o Tao) t (omega arith)
     go false q = let h : o.count ≤ t = ltb-false _ _ q in no_track_left (by o Tao) t (omega arith)
 
-opened : (m : Method) (o : Order) → Sized o → before_tracks (by o m) (tracks_from (by o m) 0) ≡ onto (by o m) (Then (ReadTrackInformation (record { 0 = 1 })))
+opened : (m : Method) (o : Order) → Sized o → before_tracks (by o m) (tracks_from (by o m) 0) ≡ onto (by o m) (Some (ReadTrackInformation (record { 0 = 1 })))
 opened Tao o z = let n = z.some in let a = z.all in next_track_lem (by o Tao) 0 (omega arith)
 opened Sao o z = refl
 
-closed : (m : Method) (o : Order) (t : TrackNumber) → length (tracks_in o) ≡ o.count → m ≡ Tao → tracks_from (by o m) t.0 ≡ onto (by o m) (Then (after_track o.count t.0))
+closed : (m : Method) (o : Order) (t : TrackNumber) → length (tracks_in o) ≡ o.count → m ≡ Tao → tracks_from (by o m) t.0 ≡ onto (by o m) (Some (after_track o.count t.0))
 closed Tao o t n e = after_closed o t.0 n
 closed Sao o t n e = absurd (no_method e)
   where

@@ -29,7 +29,8 @@ use Rattle.recorder.specs.Exchanges.{Exchange, seen}
 use Rattle.recorder.specs.Rules.{to_come, charge, needed, unusable, fits, Judgement, onward, tested, disc_tests, erases, erasing_if, opening_tests, later_tests, track_tests, is_last, polls_if, judge, judged, move, left, none, found, refused_by, first_refused}
 use Rattle.recorder.specs.Places.{piece_of}
 use Rattle.recorder.specs.History.{informations_in, informations, earlier, drive_gap, Follows, Spaced, last_end}
-use Rattle.recorder.proofs.Lists.{clash, if_no, false_true, neither, none_found, passed_clear, clear_passes, tested_by}
+use Rattle.std.proofs.lemmas.Bool.{false≢true, or_parts}
+use Rattle.recorder.proofs.Lists.{clash, if_no, none_found, passed_clear, clear_passes, tested_by}
 use Rattle.recorder.proofs.Turns.{made, Played, nothing, then, is_asking, Reads, busy, not_ready_lem, failed, malformed, profile, status, information, indication, ready, unread, reads}
 use Rattle.recorder.proofs.Scripts.{by}
 use Rattle.recorder.proofs.Rulings.{refused_next, unrefused_last}
@@ -80,7 +81,7 @@ InTurn n k (x ∷ l) = Due n k x × InTurn n (next k x) l
 
 -- neither 52h nor 51h
 other : {n k : ℕ} {x : Op} → eqb (code x) 0x52 ≡ false → eqb (code x) 0x51 ≡ false → Due n k x
-other a b = record { track = λ e. absurd (false_true (sym a ∙ e)); disc = λ e. absurd (false_true (sym b ∙ e)) }
+other a b = record { track = λ e. absurd (false≢true (sym a ∙ e)); disc = λ e. absurd (false≢true (sym b ∙ e)) }
 
 writes_turn : (n k t l f c : ℕ) (m : List Op) → InTurn n k m → InTurn n k (writes t l f c ++ m)
 writes_turn n k t l f zero m i = i
@@ -95,7 +96,7 @@ each_turn o k [] h = (other refl refl, tt)
 each_turn o k (x ∷ xs) h =
     let i = each_turn o (suc k) xs (omega arith) in
     let b : suc k ≤ o.count = omega arith in (
-      record { track = λ e. (refl, b); disc = λ e. absurd (false_true e) },
+      record { track = λ e. (refl, b); disc = λ e. absurd (false≢true e) },
       (other refl refl, writes_turn o.count (suc k) (suc k) x.length.0 0 (writes_for (x.length.0 - 0)) _ (other refl refl, close_turn o.recipe o.count (suc k) (suc k) _ i)),
     )
 
@@ -103,7 +104,7 @@ script_turn : (o : Order) → o.method ≡ Tao → length (tracks_in o) ≡ o.co
 script_turn o e n = go o.method e
   where
     go : (m : Method) → m ≡ Tao → InTurn o.count 0 (script (by o m))
-    go Tao e = (other refl refl, (record { track = λ q. absurd (false_true q); disc = λ q. refl }, each_turn o 0 (tracks_in o) (omega arith)))
+    go Tao e = (other refl refl, (record { track = λ q. absurd (false≢true q); disc = λ q. refl }, each_turn o 0 (tracks_in o) (omega arith)))
     go Sao e = clash (cc)
 
 -- ---- what was said at the latest 52h, which passed
@@ -163,7 +164,7 @@ module _ (o : Order) (v : Seen) (is : List TrackInformation) where
   heard_by x l g r (unread q n) j i = unheard (polled x l (is_polled o.immed x) (unasked x q) i)
     where
       unasked : (x : Op) → is_asking x ≡ false → next (length is) x ≡ length is
-      unasked x q = if_no _ _ (neither (eqb (code x) 0x52) _ (neither (eqb (code x) 0x51) _ (neither (eqb (code x) 0x46) _ q).1).1).0
+      unasked x q = if_no _ _ (or_parts (eqb (code x) 0x52) _ (or_parts (eqb (code x) 0x51) _ (or_parts (eqb (code x) 0x46) _ q).1).1).0
 
 pub heard : (o : Order) (es : List Exchange) → o.method ≡ Tao → length (tracks_in o) ≡ o.count → Played o es → first_refused o es ≡ none → Heard o (left o es) (informations es)
 heard o es e n nothing u = record { in_turn = script_turn o e n; latest = unsaid refl }
@@ -181,7 +182,7 @@ not_refusing false e = none_found _ e
 -- of 7 and 10 it is 10 only where that applies
 not_10 : (a b : Bool) → b ≡ false → refused_by (tested (test a 7 ∷ test b 10 ∷ []) []) ≡ found (because 10) → ⊥
 not_10 true b f e = let k : ◌≡◌ {A = ℕ} 7 10 = cc in omega arith
-not_10 false true f e = false_true (sym f)
+not_10 false true f e = false≢true (sym f)
 not_10 false false f e = none_found _ e
 
 -- a track that follows one that fits fits too

@@ -19,7 +19,8 @@ use Rattle.recorder.specs.Script.{code, is_erasing}
 use Rattle.recorder.specs.Exchanges.{Exchange, profile as profileSaid, disc, erased, unblank, seen}
 use Rattle.recorder.specs.Rules.{too_long, used, not_erasable, Judgement, onward, tested, erasing_tests, blank_tests, disc_tests, erases, erasing_if, judge_disc, judge, judged, polls_if, is_last, move, left}
 use Rattle.recorder.specs.History.{Each, Recordable, RightlyErased, ErasesRightly, BlankBefore, WritesOnBlank}
-use Rattle.recorder.proofs.Lists.{if_no, false_true, neither, never, Clear, tested_by}
+use Rattle.std.proofs.lemmas.Bool.{false≢true, or_parts}
+use Rattle.recorder.proofs.Lists.{if_no, never, Clear, tested_by}
 use Rattle.recorder.proofs.Turns.{made, Played, nothing, then, Reads, busy, not_ready_lem, failed, malformed, a46, a51, a03, profile, status, information, indication, ready, unread, reads, Turn, repeats, refuses, works, polls_begin, erases_first, asks, polls_on, polls_end, turn, profile_seen, erased_seen}
 use Rattle.recorder.proofs.Scripts.{is_of_disc, Past, script_past}
 use Rattle.recorder.proofs.Audio.{no_audio_so}
@@ -70,7 +71,7 @@ recordable_so o p d c = record { no_audio = no_audio_so o c.1.1.0; alike = c.1.1
 rightly : (o : Order) (f : Facts) (d : DiscInformation) → o.erase ≡ true → f.erased ≡ false → Clear (erasing_tests o f.profile d) → used d.status ≡ true → RightlyErased o f.profile d f.erased
 unfolding not_erasable used
 rightly o f d e n c u =
-    let q = neither (not (eqb f.profile 0x000A)) (not d.erasable) (ap (λ (b : Bool). b && (not (eqb f.profile 0x000A) || not d.erasable)) (sym u) ∙ c.1.1.1.1.1.1.0) in
+    let q = or_parts (not (eqb f.profile 0x000A)) (not d.erasable) (ap (λ (b : Bool). b && (not (eqb f.profile 0x000A) || not d.erasable)) (sym u) ∙ c.1.1.1.1.1.1.0) in
     record {
       flagged = e;
       recordable = recordable_so o f.profile d c;
@@ -85,14 +86,14 @@ rightly o f d e n c u =
     go : (a b : Bool) → eqb d.status 1 ≡ a → eqb d.status 2 ≡ b → a || b ≡ true → 1 ≤ d.status
     go true b p q w = let i : d.status ≡ 1 = eqb-true _ _ p in omega arith
     go false true p q w = let i : d.status ≡ 2 = eqb-true _ _ q in omega arith
-    go false false p q w = absurd (false_true w)
+    go false false p q w = absurd (false≢true w)
 
 -- one that is not used is blank
 unused : (s : ℕ) → used s ≡ false → ltb 2 s ≡ false → s ≡ 0
 unfolding used
 unused s u h =
     let l : s ≤ 2 = ltb-false _ _ h in
-    let n = neither (eqb s 1) (eqb s 2) u in
+    let n = or_parts (eqb s 1) (eqb s 2) u in
     let a : s ≡ 1 → ⊥ = eqb-false s 1 n.0 in
     let b : s ≡ 2 → ⊥ = eqb-false s 2 n.1 in
     omega arith
@@ -114,7 +115,7 @@ module _ (o : Order) (v : Seen) (f : Facts) (d : DiscInformation) (l : List Op) 
   passed_first e n u c false q = past z (record { said_blank = no_longer u; is_blank = λ k. unused d.status q c.1.0 }) (λ k. recordable_so o f.profile d c)
 
   judged_first : v.profile ≡ f.profile → v.erased ≡ false → f.erased ≡ false → f.unblank ≡ false → (b : Bool) → o.erase ≡ b → Stage o w (left_by (tested (disc_tests b o v d) (erasing_if (erases b v.erased d.status))) l)
-  judged_first p e n u false q = past z (record { said_blank = no_longer u; is_blank = λ k. absurd (false_true (sym q ∙ k)) }) (λ k. absurd (false_true (sym q ∙ k)))
+  judged_first p e n u false q = past z (record { said_blank = no_longer u; is_blank = λ k. absurd (false≢true (sym q ∙ k)) }) (λ k. absurd (false≢true (sym q ∙ k)))
   judged_first p e n u true q =
       subst (λ (b : Bool). Stage o w (left_by (tested (if b (blank_tests d) (erasing_tests o v.profile d)) (erasing_if (not b && used d.status))) l)) (sym e)
       (subst (λ (k : ℕ). Stage o w (left_by (tested (erasing_tests o k d) (erasing_if (used d.status))) l)) (sym p)
@@ -141,13 +142,13 @@ past_turn p b q x l j (repeats n) z = z
 past_turn p b q x l j (refuses k) z = z
 past_turn p b q x l j (works n) z = z.1
 past_turn p b q x l j (polls_begin n) z = (refl, (refl, z.1))
-past_turn p b q x l j erases_first z = absurd (false_true (sym z.0))
+past_turn p b q x l j erases_first z = absurd (false≢true (sym z.0))
 past_turn p b q x l j asks z = z.1
 past_turn p b q x l j polls_on z = (refl, (refl, z.1))
 past_turn p b q x l j polls_end z = z.1
 
 pub not_erasing : (x : Op) → is_of_disc x ≡ false → is_erasing x ≡ false
-not_erasing x e = (neither (eqb (code x) 0x51) (is_erasing x) e).1
+not_erasing x e = (or_parts (eqb (code x) 0x51) (is_erasing x) e).1
 
 -- and the disc stays as it is
 disc_kept : (x : Op) (g : Bool) (r : Reading) (f : Facts) → is_of_disc x ≡ false → Reads x g r → (of_disc f.disc (λ d. d) r ≡ f.disc) × (of_disc f.unblank (λ d. not (eqb d.status 0) && f.unblank) r ≡ f.unblank)
@@ -156,7 +157,7 @@ disc_kept x g r f n not_ready_lem = (refl, refl)
 disc_kept x g r f n failed = (refl, refl)
 disc_kept x g r f n (malformed a) = (refl, refl)
 disc_kept x g r f n profile = (refl, refl)
-disc_kept x g r f n status = absurd (false_true (sym n))
+disc_kept x g r f n status = absurd (false≢true (sym n))
 disc_kept x g r f n information = (refl, refl)
 disc_kept x g r f n indication = (refl, refl)
 disc_kept x g r f n ready = (refl, refl)
@@ -190,32 +191,32 @@ module _ (o : Order) (v : Seen) (f : Facts) (p : v.profile ≡ f.profile) (e : v
   stage_by x l g r a b failed t (first z n u) = first z n u
   stage_by x l g r a b (malformed a46) t (first z n u) = first z n u
   stage_by x l g r a b profile t (first z n u) = asked z n u
-  stage_by x l g r a b (unread q i) t (first z n u) = absurd (false_true (sym q))
+  stage_by x l g r a b (unread q i) t (first z n u) = absurd (false≢true (sym q))
   stage_by x l g r a b (busy i) t (asked z n u) = asked z n u
   stage_by x l g r a b failed t (asked z n u) = asked z n u
   stage_by x l g r a b (malformed a51) t (asked z n u) = asked z n u
   stage_by x l g r a b (status {d = d}) t (asked z n u) = judged_first o v f d l z p (e ∙ n) n u o.erase refl
-  stage_by x l g r a b (unread q i) t (asked z n u) = absurd (false_true (sym q))
+  stage_by x l g r a b (unread q i) t (asked z n u) = absurd (false≢true (sym q))
   stage_by x l g r a b (busy i) t (wiping z w) = wiping z w
   stage_by x l g r a b failed t (wiping z w) = wiping z w
   stage_by x l g r a b (malformed k) t (wiping z w) = elim k [ ]
   stage_by x l g r a b (unread q i) t (wiping {l = k} z w) = wiped k z (w.flagged, w.recordable) o.immed
-  stage_by x l g r a b (busy i) t (asking z n k) = absurd (false_true (sym i))
+  stage_by x l g r a b (busy i) t (asking z n k) = absurd (false≢true (sym i))
   stage_by x l g r a b not_ready_lem t (asking z n k) = hearing z n k
   stage_by x l g r a b failed t (asking z n k) = asking z n k
   stage_by x l g r a b (malformed m) t (asking z n k) = elim m [ ]
   stage_by x l g r a b ready t (asking z n k) = hearing z n k
-  stage_by x l g r a b (unread q i) t (asking z n k) = absurd (false_true (sym i))
+  stage_by x l g r a b (unread q i) t (asking z n k) = absurd (false≢true (sym i))
   stage_by x l g r a b (busy i) t (hearing z n k) = hearing z n k
   stage_by x l g r a b failed t (hearing z n k) = hearing z n k
   stage_by x l g r a b (malformed a03) t (hearing z n k) = hearing z n k
   stage_by x l g r a b (indication {n = m}) t (hearing {l = j} z n k) = heard j m z n k (not (is_last v.ready m))
-  stage_by x l g r a b (unread q i) t (hearing z n k) = absurd (false_true (sym q))
+  stage_by x l g r a b (unread q i) t (hearing z n k) = absurd (false≢true (sym q))
   stage_by x l g r a b (busy i) t (anew z n k) = anew z n k
   stage_by x l g r a b failed t (anew z n k) = anew z n k
   stage_by x l g r a b (malformed a51) t (anew z n k) = anew z n k
   stage_by x l g r a b (status {d = d}) t (anew z n k) = judged_anew o v f d l z (e ∙ n) n k
-  stage_by x l g r a b (unread q i) t (anew z n k) = absurd (false_true (sym q))
+  stage_by x l g r a b (unread q i) t (anew z n k) = absurd (false≢true (sym q))
   stage_by x l g r a b w t (past z n k) = past (past_turn a g b x l (judge o v x r) t z) (blanked_on o x g r f z.0 w n) k
 
 pub stage : (o : Order) (es : List Exchange) → Played o es → Stage o (facts es) (left o es)
@@ -232,21 +233,21 @@ is_later x = eqb (code x) 0x52 || eqb (code x) 0x2A
 
 module _ (o : Order) (f : Facts) where
   at_erasing : (x : Op) (l : List Op) → is_erasing x ≡ true → Stage o f (x ∷ l) → RightlyErased o f.profile f.disc f.erased
-  at_erasing x l e (first z n u) = absurd (false_true e)
-  at_erasing x l e (asked z n u) = absurd (false_true e)
+  at_erasing x l e (first z n u) = absurd (false≢true e)
+  at_erasing x l e (asked z n u) = absurd (false≢true e)
   at_erasing x l e (wiping z w) = w
-  at_erasing x l e (asking z n k) = absurd (false_true e)
-  at_erasing x l e (hearing z n k) = absurd (false_true e)
-  at_erasing x l e (anew z n k) = absurd (false_true e)
-  at_erasing x l e (past z n k) = absurd (false_true (sym (not_erasing x z.0) ∙ e))
+  at_erasing x l e (asking z n k) = absurd (false≢true e)
+  at_erasing x l e (hearing z n k) = absurd (false≢true e)
+  at_erasing x l e (anew z n k) = absurd (false≢true e)
+  at_erasing x l e (past z n k) = absurd (false≢true (sym (not_erasing x z.0) ∙ e))
 
   at_later : (x : Op) (l : List Op) → is_later x ≡ true → Stage o f (x ∷ l) → BlankBefore o f.disc f.unblank × (o.erase ≡ true → Recordable o)
-  at_later x l e (first z n u) = absurd (false_true e)
-  at_later x l e (asked z n u) = absurd (false_true e)
-  at_later x l e (wiping z w) = absurd (false_true e)
-  at_later x l e (asking z n k) = absurd (false_true e)
-  at_later x l e (hearing z n k) = absurd (false_true e)
-  at_later x l e (anew z n k) = absurd (false_true e)
+  at_later x l e (first z n u) = absurd (false≢true e)
+  at_later x l e (asked z n u) = absurd (false≢true e)
+  at_later x l e (wiping z w) = absurd (false≢true e)
+  at_later x l e (asking z n k) = absurd (false≢true e)
+  at_later x l e (hearing z n k) = absurd (false≢true e)
+  at_later x l e (anew z n k) = absurd (false≢true e)
   at_later x l e (past z n k) = (n, k)
 
 module _ (o : Order) (es : List Exchange) (x : Op) (l : List Op) (p : Played o es) (e : left o es ≡ x ∷ l) where

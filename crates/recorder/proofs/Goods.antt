@@ -18,7 +18,8 @@ use Rattle.recorder.specs.Script.{code, asks_ready, is_poll, is_erasing, takes_i
 use Rattle.recorder.specs.Exchanges.{Exchange, ends, polling, erased}
 use Rattle.recorder.specs.Rules.{Judgement, move, judged, left, none, refused_by, first_refused, ruled, exchanged, play}
 use Rattle.recorder.specs.History.{command_in, going, as_done, ending, exact_count, AllWell, unpolled, answered}
-use Rattle.recorder.proofs.Lists.{if_yes, if_no, false_true, never, none_found, clash}
+use Rattle.std.proofs.lemmas.Bool.{false≢true}
+use Rattle.recorder.proofs.Lists.{if_yes, if_no, never, none_found, clash}
 use Rattle.recorder.proofs.Turns.{made, Played, nothing, then, played, Turn, repeats, refuses, works, polls_begin, erases_first, asks, polls_on, polls_end, turn}
 use Rattle.recorder.proofs.Plans.{Unclosed, Scripted, Shape, working}
 use Rattle.recorder.proofs.Scripts.{Past, script_past, script_length, scripted}
@@ -31,7 +32,7 @@ is_end done = true
 is_end (stop w) = true
 
 pub not_going : (a : Ruling) → is_end a ≡ true → ending a ≡ going → ⊥
-not_going (issue c) t e = false_true t
+not_going (issue c) t e = false≢true t
 not_going done t e = clash (cc)
 not_going (stop w) t e = clash (cc)
 
@@ -95,7 +96,7 @@ none_past (x ∷ l) z =
 
 -- each reply takes one of them off what is left, if it answers one, or puts two in front
 taken_turn : (p b q : Bool) (x : Op) (l : List Op) (j : Judgement) → Turn p x b q j → b || asks_ready x ≡ true → refused_by j ≡ none → counted (move j (x ∷ l)) + weight x + 2 * erasings (x ∷ l) ≡ counted (x ∷ l) + 2 * (one (is_erasing x) + erasings (move j (x ∷ l)))
-taken_turn p b q x l j (repeats n) g u = absurd (false_true (sym n ∙ g))
+taken_turn p b q x l j (repeats n) g u = absurd (false≢true (sym n ∙ g))
 taken_turn p b q x l j (refuses k) g u = absurd (none_found _ (sym u))
 taken_turn p b q x l j (works n) g u = let a = taken x l n in omega arith
 taken_turn p b q x l j (polls_begin n) g u = let a = taken x l n in omega arith
@@ -113,7 +114,7 @@ erased_more o es x l y p e g = go (is_erasing x) refl y.good refl
 
     go : (a : Bool) → is_erasing x ≡ a → (b : Bool) → y.good ≡ b → one ((b && a) || erased es) ≡ one a + one (erased es)
     go true i true j = let n : one (erased es) ≡ 0 = ap one (rightly_erased o es x l p e i).once in omega arith
-    go true i false j = absurd (false_true (sym (ap (λ (b : Bool). b || asks_ready x) j ∙ not_asking i) ∙ g))
+    go true i false j = absurd (false≢true (sym (ap (λ (b : Bool). b || asks_ready x) j ∙ not_asking i) ∙ g))
     go false i true j = omega arith
     go false i false j = omega arith
 

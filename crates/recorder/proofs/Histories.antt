@@ -32,7 +32,8 @@ use Rattle.recorder.specs.Rules.{left, none, found, refusal, ruled, exchanged, p
 use Rattle.recorder.specs.Recipes.{under, others, replies_in, bytes_given}
 use Rattle.recorder.specs.Job.{Next, next_in, due_at, command_of, most_commands, latest_progress, unchanged, valid_of, taken_as, take_of, give_of}
 use Rattle.recorder.specs.History.{History, taken, given, given_all, history, command_in, commands, going, as_done, as_stop, ending, ended, phase_in, Accompanied, OfAnswer, Every, Fresh, Unskipped, RightlyErased, ErasesRightly, BlankBefore, WritesOnBlank, HasAudio, is_opening, OnlyOpens, ButFunction1, exact_count, AllWell, unpolled, answered, AllGood, Whole, Takes, Gives}
-use Rattle.recorder.proofs.Lists.{if_yes, if_no, clash, false_true, same_order}
+use Rattle.std.proofs.lemmas.Bool.{false≢true}
+use Rattle.recorder.proofs.Lists.{if_yes, if_no, clash, same_order}
 use Rattle.recorder.proofs.Turns.{Played, nothing, played, progress_seen}
 use Rattle.recorder.proofs.Scripts.{script_length}
 use Rattle.recorder.proofs.Rulings.{ruled_at, rule_order, rule_done, due_poll, each_unskipped, rule_stop}
@@ -140,13 +141,13 @@ record Latest (q : Outcome Order) (k : ℕ) (h : History) : Type 0 where
   shows : (o : Order) → q ≡ pass o → Played o h.exchanges → ended h.answers ≡ going → latest_progress h.last.state.progress ≡ if (polling o.immed h.exchanges) (progress h.exchanges) 0
 
 no_commands : (a : Ruling) (l : List Command) → is_end a ≡ true → l ≡ command_in a ++ l
-no_commands (issue c) l e = absurd (false_true e)
+no_commands (issue c) l e = absurd (false≢true e)
 no_commands done l e = refl
 no_commands (stop w) l e = refl
 
 -- an end is no command
 no_command : (P : Command → Type 0) (a : Ruling) → is_end a ≡ true → OfAnswer P a
-no_command P (issue c) e = absurd (false_true e)
+no_command P (issue c) e = absurd (false≢true e)
 no_command P done e = tt
 no_command P (stop w) e = tt
 
@@ -220,8 +221,8 @@ latest_of q k h (over_so v) =
       after_end = v.later;
       so_ended = v.so_ended;
       unmoved = λ z y. give_over h.last.state y.good y.bytes v.state_ended;
-      made = λ o f c x. absurd (false_true (ap is_end (sym x) ∙ v.answer_ends));
-      accompanied = λ o f c x. absurd (false_true (ap is_end (sym x) ∙ v.answer_ends));
+      made = λ o f c x. absurd (false≢true (ap is_end (sym x) ∙ v.answer_ends));
+      accompanied = λ o f c x. absurd (false≢true (ap is_end (sym x) ∙ v.answer_ends));
       counts = v.counts;
       reports = v.reports;
       given_so = v.commands_given ∙ no_commands (ruled q h.exchanges) (answered h.exchanges) v.rules_over;
@@ -342,7 +343,7 @@ module _ (b : List ℕ) (rs : List Reply) where
           given_count = omega arith ∙ sym (if_no _ _ p ∙ i);
           done_at = λ y z. absurd (omega arith);
           not_before = λ y. so_ended ∙ x;
-          not_polling = λ y. absurd (false_true (sym p ∙ y));
+          not_polling = λ y. absurd (false≢true (sym p ∙ y));
           each_reply = λ y. l;
           no_polls = λ f.
               let u = no_polls o es f (played o rs) in
@@ -355,11 +356,11 @@ module _ (b : List ℕ) (rs : List Reply) where
         record {
           exact = λ y. absurd (going_done (sym (so_ended ∙ x) ∙ y));
           given_count = omega arith ∙ sym (if_yes _ _ p);
-          done_at = λ y z. absurd (false_true (sym z ∙ p));
+          done_at = λ y z. absurd (false≢true (sym z ∙ p));
           not_before = λ y. so_ended ∙ x;
           not_polling = λ y. so_ended ∙ x;
           each_reply = λ y. l;
-          no_polls = λ f. absurd (false_true (sym (never_polling es) ∙ ap (λ (z : Bool). polling z es) (sym f) ∙ p));
+          no_polls = λ f. absurd (false≢true (sym (never_polling es) ∙ ap (λ (z : Bool). polling z es) (sym f) ∙ p));
         }
     all_good_by (at_end x l p c n) =
         let a = given_unpolled in
@@ -369,7 +370,7 @@ module _ (b : List ℕ) (rs : List Reply) where
           given_count = omega arith ∙ sym (if_no _ _ p ∙ i);
           done_at = λ y z. so_ended ∙ x;
           not_before = λ y. absurd (omega arith);
-          not_polling = λ y. absurd (false_true (sym p ∙ y));
+          not_polling = λ y. absurd (false≢true (sym p ∙ y));
           each_reply = λ y. absurd (is_done_over (sym so_ended ∙ y));
           no_polls = λ f.
               let u = no_polls o es f (played o rs) in

@@ -14,8 +14,8 @@ use Rattle.mmc.specs.ReplyBlock.{reply_of}
 use Rattle.mmc.specs.declared.order.Order.{Order}
 use Rattle.recorder.specs.declared.script.Op.{Op}
 use Rattle.recorder.specs.declared.script.Op.TheVariants.{GetConfiguration, SendCueSheet, TestUnitReady, RequestSense}
-use Rattle.recorder.specs.declared.places.Following.{Following}
-use Rattle.recorder.specs.declared.places.Following.TheVariants.{Next as Then, Nothing}
+use Rattle.std.specs.declared.option.Option.{Option}
+use Rattle.std.specs.declared.option.Option.TheVariants.{Some, None}
 use Rattle.recorder.specs.declared.answers.Command.{Command}
 use Rattle.recorder.specs.declared.replies.Reading.{Reading}
 use Rattle.recorder.specs.declared.exchanges.Seen.{Seen}
@@ -30,7 +30,8 @@ use Rattle.recorder.specs.Exchanges.{see}
 use Rattle.recorder.specs.Rules.{Judgement, again, onward, refused, judge}
 use Rattle.recorder.specs.Places.{piece_of, after_in}
 use Rattle.recorder.specs.Job.{due_at, due_in, command_of, Turn, goes, finish, halt, advanced, aside, turn_by, turn_of, step_of, stands_at, stands_in, stands_polled, stands_erasing, stands, unchanged, rests_at, opening, give_of}
-use Rattle.recorder.proofs.Lists.{false_true, both, clash}
+use Rattle.std.proofs.lemmas.Bool.{and_parts, false≢true}
+use Rattle.recorder.proofs.Lists.{clash}
 use Rattle.recorder.proofs.Turns.{is_asking, Reads, busy, not_ready_lem, failed, malformed, profile, status, information, indication, ready, unread, reads}
 use Rattle.recorder.proofs.Makes.{Makes, made_by_lem, own_by, not_read, MakesThen, on_unread, on_asking, on_closed}
 
@@ -41,9 +42,9 @@ MakesTurn n (goes t) = Makes n (due_in t) t.seen.at
 MakesTurn n finish = Unit {0}
 MakesTurn n (halt w) = Unit {0}
 
-advanced_made : (n : ℕ) (f : Following) (u : Seen) → MakesThen n f u.at → MakesTurn n (advanced f u)
-advanced_made n (Then y) u h = h
-advanced_made n Nothing u h = tt
+advanced_made : (n : ℕ) (f : Option Op) (u : Seen) → MakesThen n f u.at → MakesTurn n (advanced f u)
+advanced_made n (Some y) u h = h
+advanced_made n None u h = tt
 
 -- nothing is needed for a poll or A1h
 aside_made : (n : ℕ) (b : Bool) (x : Op) (v : Seen) → MakesTurn n (goes (aside b x v))
@@ -71,20 +72,20 @@ failed_asks : (o : Order) (v : Seen) (x : Op) (g : Bool) (r : Reading) (xs : Lis
 failed_asks o v x g r xs (busy n) f q = absurd (not_again xs q)
 failed_asks o v x g r xs not_ready_lem f q = refl
 failed_asks o v x g r xs failed f q = absurd (not_refused _ xs q)
-failed_asks o v x g r xs (malformed a) f q = absurd (false_true (sym f))
-failed_asks o v x g r xs profile f q = absurd (false_true (sym f))
-failed_asks o v x g r xs status f q = absurd (false_true (sym f))
-failed_asks o v x g r xs information f q = absurd (false_true (sym f))
-failed_asks o v x g r xs indication f q = absurd (false_true (sym f))
+failed_asks o v x g r xs (malformed a) f q = absurd (false≢true (sym f))
+failed_asks o v x g r xs profile f q = absurd (false≢true (sym f))
+failed_asks o v x g r xs status f q = absurd (false≢true (sym f))
+failed_asks o v x g r xs information f q = absurd (false≢true (sym f))
+failed_asks o v x g r xs indication f q = absurd (false≢true (sym f))
 failed_asks o v x g r xs ready f q = refl
-failed_asks o v x g r xs (unread u n) f q = absurd (false_true (sym f))
+failed_asks o v x g r xs (unread u n) f q = absurd (false≢true (sym f))
 
 module _ (o : Order) (x : Op) (v : Seen) (e : stands_in o.method o.recipe o.count (piece_of o (track_in x)) (piece_of o (suc (track_in x))) v.at x ≡ true) where
   standing : (1 ≤ o.count) × ((o.count ≤ most_tracks) × (stands_at o.method o.recipe o.count (piece_of o (track_in x)) (piece_of o (suc (track_in x))) v.at x ≡ true))
   unfolding stands_in
   standing =
-      let p = both (leb 1 o.count) _ e in
-      let q = both (leb o.count most_tracks) _ p.1 in
+      let p = and_parts (leb 1 o.count) _ e in
+      let q = and_parts (leb o.count most_tracks) _ p.1 in
       (leb-true _ _ p.0, (leb-true _ _ q.0, q.1))
 
   pause_long : x ≡ SendCueSheet → 0 < piece_of o (track_in x)
@@ -102,7 +103,7 @@ module _ (o : Order) (x : Op) (v : Seen) (e : stands_in o.method o.recipe o.coun
 
   -- the job has no place at 00h
   no_place : x ≡ TestUnitReady → ⊥
-  no_place p = false_true (subst (λ (y : Op). stands_at o.method o.recipe o.count (piece_of o (track_in x)) (piece_of o (suc (track_in x))) v.at y ≡ true) p standing.1.1)
+  no_place p = false≢true (subst (λ (y : Op). stands_at o.method o.recipe o.count (piece_of o (track_in x)) (piece_of o (suc (track_in x))) v.at y ≡ true) p standing.1.1)
 
   turn_made : (p : Poll) → stands_polled o.immed x p ≡ true → (g : Bool) (r : Reading) (j : Judgement) → Reads (due_at x p) g r → judge o v (due_at x p) r ≡ j → MakesTurn o.count (turn_by j o (record { place = x; poll = p; seen = v }) r)
   turn_made Off c g r again w q = own_by o.method o.recipe o.count _ _ v.at x standing.0 standing.1.0 standing.1.1
@@ -116,7 +117,7 @@ module _ (o : Order) (x : Op) (v : Seen) (e : stands_in o.method o.recipe o.coun
   turn_made Ready c g r (refused y) w q = tt
   turn_made Sense c g r again w q = tt
   turn_made Sense c g r (onward []) w q =
-      advanced_made o.count (after_in o x) (see o.method RequestSense r v) (on_closed o.count _ v standing.0 standing.1.0 o.method o.recipe _ x _ (both (takes_immed x) _ c).0)
+      advanced_made o.count (after_in o x) (see o.method RequestSense r v) (on_closed o.count _ v standing.0 standing.1.0 o.method o.recipe _ x _ (and_parts (takes_immed x) _ c).0)
   turn_made Sense c g r (onward (y ∷ ys)) w q = aside_made o.count (is_poll y) x _
   turn_made Sense c g r (refused y) w q = tt
 
@@ -144,8 +145,8 @@ give_made r good d c = go (rests_at r.phase) (stands r.order r.progress) refl
     go true b q e = absurd (not_issued _ c e)
     go false false q e = absurd (not_issued _ c e)
     go false true q e =
-        let p = both (stands_polled r.order.immed s.place s.poll) _ q in
-        let i = both (stands_erasing r.order.erase s.place) _ p.1 in
+        let p = and_parts (stands_polled r.order.immed s.place s.poll) _ q in
+        let i = and_parts (stands_erasing r.order.erase s.place) _ p.1 in
         step_made r.order s r.count t
         (turn_made r.order s.place s.seen i.1 s.poll p.0 good (reading (due_in s) (reply_of good d)) _ (reads (due_in s) (reply_of good d)) refl) c e
 

@@ -27,20 +27,9 @@ if_yes x y e = ap (λ (t : Bool). if t x y) e
 pub if_no : {A : Type 0} {b : Bool} (x y : A) → b ≡ false → if b x y ≡ y
 if_no x y e = ap (λ (t : Bool). if t x y) e
 
-pub false_true : false ≡ true → ⊥
-false_true e = mathlib.Core.Bool.false≢true e
-
 -- from two constructors that are equal: `clash (cc)`
 pub clash : {A : Type 0} → ◌≡◌ {A = ℕ} 0 1 → A
 clash e = absurd (omega arith)
-
-pub both : (a b : Bool) → a && b ≡ true → (a ≡ true) × (b ≡ true)
-both true b e = (refl, e)
-both false b e = absurd (false_true e)
-
-pub neither : (a b : Bool) → a || b ≡ false → (a ≡ false) × (b ≡ false)
-neither true b e = absurd (false_true (sym e))
-neither false b e = (refl, e)
 
 pub never : (b : Bool) → b && false ≡ false
 never true = refl
@@ -84,20 +73,6 @@ tested_by P (t ∷ ts) xs p q = go t.applies refl (λ e. tested_by P ts xs (λ c
     go : (b : Bool) → t.applies ≡ b → (t.applies ≡ false → P (tested ts xs)) → P (if b (refused (because t.number)) (tested ts xs))
     go true e h = q t.number
     go false e h = h e
-
--- what the first tests refuse, all refuse
-pub refused_first : (j : Judgement) (ts us : List Test) (xs : List Op) → (j ≡ onward [] → ⊥) → j ≡ tested ts [] → j ≡ tested (ts ++ us) xs
-refused_first j [] us xs n e = absurd (n e)
-refused_first j (t ∷ ts) us xs n e = go t.applies e (refused_first j ts us xs n)
-  where
-    go : (b : Bool) → j ≡ if b (refused (because t.number)) (tested ts []) → (j ≡ tested ts [] → j ≡ tested (ts ++ us) xs) → j ≡ if b (refused (because t.number)) (tested (ts ++ us) xs)
-    go true e h = e
-    go false e h = h e
-
--- where the first tests pass, the others are left
-pub passed_first : (ts us : List Test) (xs : List Op) → Clear ts → tested (ts ++ us) xs ≡ tested us xs
-passed_first [] us xs c = refl
-passed_first (t ∷ ts) us xs c = if_no _ _ c.0 ∙ passed_first ts us xs c.1
 
 -- ---- gathering
 

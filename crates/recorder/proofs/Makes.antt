@@ -25,8 +25,8 @@ use Rattle.mmc.specs.declared.order.Recipe.{Recipe}
 use Rattle.mmc.specs.declared.order.Recipe.TheVariants.{Old, New}
 use Rattle.recorder.specs.declared.script.Op.{Op}
 use Rattle.recorder.specs.declared.script.Op.TheVariants.{GetConfiguration, ReadDiscInformation, ReadTrackInformation, ModeSelect, SendCueSheet, Write, SynchronizeCache, CloseTrack, CloseSession, Blank, TestUnitReady, RequestSense}
-use Rattle.recorder.specs.declared.places.Following.{Following}
-use Rattle.recorder.specs.declared.places.Following.TheVariants.{Next as Then, Nothing}
+use Rattle.std.specs.declared.option.Option.{Option}
+use Rattle.std.specs.declared.option.Option.TheVariants.{Some, None}
 use Rattle.recorder.specs.declared.replies.Reading.{Reading}
 use Rattle.recorder.specs.declared.replies.Reading.TheVariants.{Unread}
 use Rattle.recorder.specs.declared.exchanges.Seen.{Seen}
@@ -36,7 +36,8 @@ use Rattle.recorder.specs.Exchanges.{see}
 use Rattle.recorder.specs.Rules.{last_frame}
 use Rattle.recorder.specs.Places.{piece_ended, before_block, after_track, after_synchronize, op_after}
 use Rattle.recorder.specs.Job.{in_order, in_time, in_piece, is_write, stands_at}
-use Rattle.recorder.proofs.Lists.{if_yes, false_true, both, clash}
+use Rattle.std.proofs.lemmas.Bool.{and_parts, false≢true}
+use Rattle.recorder.proofs.Lists.{if_yes, clash}
 use Rattle.recorder.proofs.Turns.{Asks, a46, a51, a52, a03, is_asking, Reads, malformed, profile, status, information, indication, ready, unread}
 
 -- ---- what the makers need
@@ -112,8 +113,8 @@ pub record OfPiece (l f c : ℕ) (at : FrameCount) : Type 0 where
 pub of_piece : (l f c : ℕ) (at : FrameCount) → is_write l f c at ≡ true → OfPiece l f c at
 unfolding is_write in_time
 of_piece l f c at e =
-    let p = both (ltb f l) _ e in
-    let q = both (eqb c (portion l f)) _ p.1 in
+    let p = and_parts (ltb f l) _ e in
+    let q = and_parts (eqb c (portion l f)) _ p.1 in
     record { within = ltb-true _ _ p.0; part = eqb-true _ _ q.0; limit = leb-true _ _ q.1 }
 
 pub own_by : (m : Method) (u : Recipe) (n l k : ℕ) (at : FrameCount) (x : Op) → 1 ≤ n → n ≤ most_tracks → stands_at m u n l k at x ≡ true → Makes n x at
@@ -123,7 +124,7 @@ own_by m u n l k at (ReadTrackInformation t) a b e = tt
 own_by m u n l k at (ModeSelect t) a b e = tt
 own_by m u n l k at SendCueSheet a b e = (a, b)
 own_by m u n l k at (Write t f c) a b e =
-    let w = of_piece l f.0 c.0 at (both (in_piece m n k t.0) _ e).1 in
+    let w = of_piece l f.0 c.0 at (and_parts (in_piece m n k t.0) _ e).1 in
     let g = w.within in
     let p = w.part in
     let h = w.limit in
@@ -160,11 +161,11 @@ asks_asking a52 = refl
 asks_asking a03 = refl
 
 pub not_read : (x : Op) (r : Reading) → is_asking x ≡ false → Reads x true r → r ≡ Unread
-not_read x r q (malformed a) = absurd (false_true (sym q ∙ asks_asking a))
-not_read x r q profile = absurd (false_true (sym q))
-not_read x r q status = absurd (false_true (sym q))
-not_read x r q information = absurd (false_true (sym q))
-not_read x r q indication = absurd (false_true (sym q))
+not_read x r q (malformed a) = absurd (false≢true (sym q ∙ asks_asking a))
+not_read x r q profile = absurd (false≢true (sym q))
+not_read x r q status = absurd (false≢true (sym q))
+not_read x r q information = absurd (false≢true (sym q))
+not_read x r q indication = absurd (false≢true (sym q))
 not_read x r q ready = refl
 not_read x r q (unread u n) = refl
 
@@ -177,9 +178,9 @@ block_due : (m : Method) (n l k t f : ℕ) → f < l → before_block m n l k t 
 unfolding before_block
 block_due m n l k t f h = if_yes _ _ (lt-ltb _ _ h)
 
-abbrev pub MakesThen : ℕ → Following → FrameCount → Type 0
-MakesThen n (Then x) at = Makes n x at
-MakesThen n Nothing at = Unit {0}
+abbrev pub MakesThen : ℕ → Option Op → FrameCount → Type 0
+MakesThen n (Some x) at = Makes n x at
+MakesThen n None at = Unit {0}
 
 module _ (n k : ℕ) (v : Seen) (a : 1 ≤ n) (b : n ≤ most_tracks) where
   -- after a track nothing is needed
@@ -202,15 +203,15 @@ module _ (n k : ℕ) (v : Seen) (a : 1 ≤ n) (b : n ≤ most_tracks) where
   on_unread m u l ReadDiscInformation p e q = tt
   on_unread m u l (ReadTrackInformation t) p e q = tt
   on_unread Tao u l (ModeSelect t) p e q =
-      let h : v.at.0 + l ≤ last_frame = leb-true _ _ (both (in_order n t.0) _ e).1 in
+      let h : v.at.0 + l ≤ last_frame = leb-true _ _ (and_parts (in_order n t.0) _ e).1 in
       on_by Tao n l k t.0 0 v.at (omega arith) (λ s g. clash (cc))
   on_unread Sao u l (ModeSelect t) p e q = (a, b)
   on_unread m u l SendCueSheet p e q =
-      let h : v.at.0 + l ≤ last_frame = leb-true _ _ (both (not (stepwise m)) (leb (v.at.0 + l) last_frame) e).1 in
+      let h : v.at.0 + l ≤ last_frame = leb-true _ _ (and_parts (not (stepwise m)) (leb (v.at.0 + l) last_frame) e).1 in
       let w : 0 < l = p refl in
       subst (λ (y : Op). Makes n y v.at) (sym (block_due m n l k 0 0 w)) (omega arith, (omega arith, omega arith))
   on_unread m u l (Write t f c) p e q =
-      let i = both (in_piece m n k t.0) _ e in
+      let i = and_parts (in_piece m n k t.0) _ e in
       let w = of_piece l f.0 c.0 v.at i.1 in
       let g = w.within in
       let y = w.part in
@@ -221,36 +222,36 @@ module _ (n k : ℕ) (v : Seen) (a : 1 ≤ n) (b : n ≤ most_tracks) where
   on_unread m u l (CloseTrack t) p e q = on_track t.0 v.at
   on_unread m u l CloseSession p e q = tt
   on_unread m u l Blank p e q = tt
-  on_unread m u l TestUnitReady p e q = absurd (false_true e)
-  on_unread m u l RequestSense p e q = absurd (false_true e)
+  on_unread m u l TestUnitReady p e q = absurd (false≢true e)
+  on_unread m u l RequestSense p e q = absurd (false≢true e)
 
   -- after an asking operation nothing is needed
   pub on_asking : (m : Method) (u : Recipe) (l : ℕ) (x : Op) (at : FrameCount) → is_asking x ≡ true → MakesThen n (op_after m u n l k x) at
   on_asking m u l GetConfiguration at q = tt
   on_asking m u l ReadDiscInformation at q = tt
   on_asking m u l (ReadTrackInformation t) at q = tt
-  on_asking m u l (ModeSelect t) at q = absurd (false_true q)
-  on_asking m u l SendCueSheet at q = absurd (false_true q)
-  on_asking m u l (Write t f c) at q = absurd (false_true q)
-  on_asking m u l (SynchronizeCache t) at q = absurd (false_true q)
-  on_asking m u l (CloseTrack t) at q = absurd (false_true q)
-  on_asking m u l CloseSession at q = absurd (false_true q)
-  on_asking m u l Blank at q = absurd (false_true q)
-  on_asking m u l TestUnitReady at q = absurd (false_true q)
+  on_asking m u l (ModeSelect t) at q = absurd (false≢true q)
+  on_asking m u l SendCueSheet at q = absurd (false≢true q)
+  on_asking m u l (Write t f c) at q = absurd (false≢true q)
+  on_asking m u l (SynchronizeCache t) at q = absurd (false≢true q)
+  on_asking m u l (CloseTrack t) at q = absurd (false≢true q)
+  on_asking m u l CloseSession at q = absurd (false≢true q)
+  on_asking m u l Blank at q = absurd (false≢true q)
+  on_asking m u l TestUnitReady at q = absurd (false≢true q)
   on_asking m u l RequestSense at q = tt
 
   -- nor after one that takes Immed, wherever the next block goes
   pub on_closed : (m : Method) (u : Recipe) (l : ℕ) (x : Op) (at : FrameCount) → takes_immed x ≡ true → MakesThen n (op_after m u n l k x) at
-  on_closed m u l GetConfiguration at q = absurd (false_true q)
-  on_closed m u l ReadDiscInformation at q = absurd (false_true q)
-  on_closed m u l (ReadTrackInformation t) at q = absurd (false_true q)
-  on_closed m u l (ModeSelect t) at q = absurd (false_true q)
-  on_closed m u l SendCueSheet at q = absurd (false_true q)
-  on_closed m u l (Write t f c) at q = absurd (false_true q)
+  on_closed m u l GetConfiguration at q = absurd (false≢true q)
+  on_closed m u l ReadDiscInformation at q = absurd (false≢true q)
+  on_closed m u l (ReadTrackInformation t) at q = absurd (false≢true q)
+  on_closed m u l (ModeSelect t) at q = absurd (false≢true q)
+  on_closed m u l SendCueSheet at q = absurd (false≢true q)
+  on_closed m u l (Write t f c) at q = absurd (false≢true q)
   on_closed Tao u l (SynchronizeCache t) at q = on_synchronized u t.0 at
   on_closed Sao u l (SynchronizeCache t) at q = tt
   on_closed m u l (CloseTrack t) at q = on_track t.0 at
   on_closed m u l CloseSession at q = tt
   on_closed m u l Blank at q = tt
-  on_closed m u l TestUnitReady at q = absurd (false_true q)
-  on_closed m u l RequestSense at q = absurd (false_true q)
+  on_closed m u l TestUnitReady at q = absurd (false≢true q)
+  on_closed m u l RequestSense at q = absurd (false≢true q)

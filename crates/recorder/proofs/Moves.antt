@@ -10,8 +10,8 @@ use Rattle.mmc.specs.declared.order.Method.{Method}
 use Rattle.mmc.specs.declared.order.Method.TheVariants.{Tao, Sao}
 use Rattle.recorder.specs.declared.script.Op.{Op}
 use Rattle.recorder.specs.declared.script.Op.TheVariants.{GetConfiguration, ReadDiscInformation, ReadTrackInformation, ModeSelect, SendCueSheet, Write, SynchronizeCache, CloseTrack, CloseSession, Blank, TestUnitReady, RequestSense}
-use Rattle.recorder.specs.declared.places.Following.{Following}
-use Rattle.recorder.specs.declared.places.Following.TheVariants.{Next as Then, Nothing}
+use Rattle.std.specs.declared.option.Option.{Option}
+use Rattle.std.specs.declared.option.Option.TheVariants.{Some, None}
 use Rattle.recorder.specs.declared.replies.DiscInformation.{DiscInformation}
 use Rattle.recorder.specs.declared.replies.Reading.{Reading}
 use Rattle.recorder.specs.declared.replies.Reading.TheVariants.{Disc, ProgressIndication, Unread}
@@ -26,7 +26,8 @@ use Rattle.recorder.specs.Exchanges.{Named, past, see, name}
 use Rattle.recorder.specs.Rules.{Judgement, onward, refused, disc_tests, erases, erasing_if, track_tests, polls_if, is_last, judge, move, none, found, refused_by}
 use Rattle.recorder.specs.Places.{after_in}
 use Rattle.recorder.specs.Job.{due_at, goes, finish, halt, advanced, turn_by, turn_of}
-use Rattle.recorder.proofs.Lists.{false_true, both, tested_by}
+use Rattle.std.proofs.lemmas.Bool.{and_parts, false≢true}
+use Rattle.recorder.proofs.Lists.{tested_by}
 use Rattle.recorder.proofs.Turns.{Reads, busy, not_ready_lem, failed, malformed, profile, status, information, indication, ready, unread, reads}
 use Rattle.recorder.proofs.Apart.{past_count}
 use Rattle.recorder.proofs.Behind.{Sized, behind, onto, Goes, GoesOn, goes_on}
@@ -94,15 +95,15 @@ module _ (o : Order) (x : Op) (p : Poll) (v : Seen) (n : Named) (z : Sized o) (s
   onward_to : refused_by (judge o v (due_at x p) r) ≡ none → turn_of o (at x p v) r ≡ advanced (after_in o x) w → move (judge o v (due_at x p) r) (plan_at o x p) ≡ behind o x → StandingThen o.method o (after_in o x) w k → Moved o x p v n r
   onward_to u t m h = go (after_in o x) refl h
     where
-      turns : (f : Following) → after_in o x ≡ f → turn_of o (at x p v) r ≡ advanced f w
-      turns f e = t ∙ ap (λ (g : Following). advanced g w) e
+      turns : (f : Option Op) → after_in o x ≡ f → turn_of o (at x p v) r ≡ advanced f w
+      turns f e = t ∙ ap (λ (g : Option Op). advanced g w) e
 
-      moves : (f : Following) → after_in o x ≡ f → move (judge o v (due_at x p) r) (plan_at o x p) ≡ onto o f
+      moves : (f : Option Op) → after_in o x ≡ f → move (judge o v (due_at x p) r) (plan_at o x p) ≡ onto o f
       moves f e = m ∙ goes_on o x z (standing_goes o.method o x v n z s) ∙ ap (onto o) e
 
-      go : (f : Following) → after_in o x ≡ f → StandingThen o.method o (after_in o x) w k → Moved o x p v n r
-      go (Then y) e h = on_to y Off (turns (Then y) e) u (moves (Then y) e) (record { standing = subst (λ (f : Following). StandingThen o.method o f w k) e h; polled_at = tt })
-      go Nothing e h = ends (turns Nothing e) u (moves Nothing e)
+      go : (f : Option Op) → after_in o x ≡ f → StandingThen o.method o (after_in o x) w k → Moved o x p v n r
+      go (Some y) e h = on_to y Off (turns (Some y) e) u (moves (Some y) e) (record { standing = subst (λ (f : Option Op). StandingThen o.method o f w k) e h; polled_at = tt })
+      go None e h = ends (turns None e) u (moves None e)
 
   refuses : (y : Why) → judge o v (due_at x p) r ≡ refused y → Moved o x p v n r
   refuses y j = stops y (ap (λ (k : Judgement). turn_by k o (at x p v) r) j) (ap refused_by j)
@@ -122,7 +123,7 @@ immed_at x v c = past_count x v.at ∙ none_put x c
     none_put (ReadTrackInformation t) c = omega arith
     none_put (ModeSelect t) c = omega arith
     none_put SendCueSheet c = omega arith
-    none_put (Write t f k) c = absurd (false_true c)
+    none_put (Write t f k) c = absurd (false≢true c)
     none_put (SynchronizeCache t) c = omega arith
     none_put (CloseTrack t) c = omega arith
     none_put CloseSession c = omega arith
@@ -134,7 +135,7 @@ immed_at x v c = past_count x v.at ∙ none_put x c
 worked : (o : Order) (x : Op) (v : Seen) (n : Named) → Sized o → Early o x → Standing o.method o x v n → Reads x true Unread → (b : Bool) → is_polled o.immed x ≡ b → Moved o x Off v n Unread
 worked o x v n z early s w true q =
     on_to x Ready (ap (λ (b : Bool). turn_by (polls_if b) o (at x Off v) Unread) q) refl (ap (λ (b : Bool). move (polls_if b) (x ∷ behind o x)) q)
-    (record { standing = standing_closing o.method o x v _ n n s (both (takes_immed x) _ q).0 (immed_at x v (both (takes_immed x) _ q).0); polled_at = q })
+    (record { standing = standing_closing o.method o x v _ n n s (and_parts (takes_immed x) _ q).0 (immed_at x v (and_parts (takes_immed x) _ q).0); polled_at = q })
 worked o x v n z early s w false q = passes o x v n z early s Unread w (ap polls_if q)
 
 -- a disc that passes, by whether it is erased first
@@ -142,7 +143,7 @@ described : (o : Order) (v : Seen) (n : Named) → Sized o → Early o ReadDiscI
 described o v n z early s d false q j = passes o ReadDiscInformation v n z early s (Disc d) status j
 described o v n z early s d true q j =
     on_to Blank Off (ap (λ (k : Judgement). turn_by k o (at ReadDiscInformation Off v) (Disc d)) j) (ap refused_by j) (ap (λ (k : Judgement). move k (ReadDiscInformation ∷ behind o ReadDiscInformation)) j)
-    (record { standing = ((both o.erase _ q).0, s); polled_at = tt })
+    (record { standing = ((and_parts o.erase _ q).0, s); polled_at = tt })
 
 moved_off : (o : Order) (x : Op) (v : Seen) (n : Named) → Sized o → Early o x → Standing o.method o x v n → (g : Bool) (r : Reading) → Reads x g r → Moved o x Off v n r
 moved_off o x v n z early s g r (busy i) = on_to x Off refl refl refl (record { standing = s; polled_at = tt })
@@ -161,28 +162,28 @@ moved_off o x v n z early s g r (unread q i) = worked o x v n z early s (unread 
 
 -- a reply to 00h
 moved_ready : (o : Order) (x : Op) (v : Seen) (n : Named) → Sized o → Standing o.method o x v n → is_polled o.immed x ≡ true → (g : Bool) (r : Reading) → Reads TestUnitReady g r → Moved o x Ready v n r
-moved_ready o x v n z s c g r (busy i) = absurd (false_true (sym i))
-moved_ready o x v n z s c g r not_ready_lem = on_to x Sense refl refl refl (record { standing = standing_closing o.method o x v _ n n s (both (takes_immed x) _ c).0 refl; polled_at = c })
+moved_ready o x v n z s c g r (busy i) = absurd (false≢true (sym i))
+moved_ready o x v n z s c g r not_ready_lem = on_to x Sense refl refl refl (record { standing = standing_closing o.method o x v _ n n s (and_parts (takes_immed x) _ c).0 refl; polled_at = c })
 moved_ready o x v n z s c g r failed = refuses o x Ready v n z s r _ refl
 moved_ready o x v n z s c g r (malformed a) = elim a [ ]
-moved_ready o x v n z s c g r ready = on_to x Sense refl refl refl (record { standing = standing_closing o.method o x v _ n n s (both (takes_immed x) _ c).0 refl; polled_at = c })
-moved_ready o x v n z s c g r (unread q i) = absurd (false_true (sym i))
+moved_ready o x v n z s c g r ready = on_to x Sense refl refl refl (record { standing = standing_closing o.method o x v _ n n s (and_parts (takes_immed x) _ c).0 refl; polled_at = c })
+moved_ready o x v n z s c g r (unread q i) = absurd (false≢true (sym i))
 
 -- a reply to 03h, by whether the round was the last
 heard : (o : Order) (x : Op) (v : Seen) (n : Named) → Sized o → Standing o.method o x v n → is_polled o.immed x ≡ true → (m : ℕ) (b : Bool) → is_last v.ready m ≡ b → Moved o x Sense v n (ProgressIndication m)
 heard o x v n z s c m true q =
     onward_to o x Sense v n z s (ProgressIndication m) refl (ap (λ (b : Bool). turn_by (polls_if (not b)) o (at x Sense v) (ProgressIndication m)) q) (ap (λ (b : Bool). move (polls_if (not b)) (RequestSense ∷ behind o x)) q)
-    (stood_polled o x v _ n n s (both (takes_immed x) _ c).0 refl)
+    (stood_polled o x v _ n n s (and_parts (takes_immed x) _ c).0 refl)
 heard o x v n z s c m false q =
     on_to x Ready (ap (λ (b : Bool). turn_by (polls_if (not b)) o (at x Sense v) (ProgressIndication m)) q) refl (ap (λ (b : Bool). move (polls_if (not b)) (RequestSense ∷ behind o x)) q)
-    (record { standing = standing_closing o.method o x v _ n n s (both (takes_immed x) _ c).0 refl; polled_at = c })
+    (record { standing = standing_closing o.method o x v _ n n s (and_parts (takes_immed x) _ c).0 refl; polled_at = c })
 
 moved_sense : (o : Order) (x : Op) (v : Seen) (n : Named) → Sized o → Standing o.method o x v n → is_polled o.immed x ≡ true → (g : Bool) (r : Reading) → Reads RequestSense g r → Moved o x Sense v n r
 moved_sense o x v n z s c g r (busy i) = on_to x Sense refl refl refl (record { standing = s; polled_at = c })
 moved_sense o x v n z s c g r failed = refuses o x Sense v n z s r _ refl
 moved_sense o x v n z s c g r (malformed a) = refuses o x Sense v n z s r _ refl
 moved_sense o x v n z s c g r (indication {n = m}) = heard o x v n z s c m (is_last v.ready m) refl
-moved_sense o x v n z s c g r (unread q i) = absurd (false_true (sym q))
+moved_sense o x v n z s c g r (unread q i) = absurd (false≢true (sym q))
 
 moved_by : (o : Order) (x : Op) (p : Poll) (v : Seen) (n : Named) → Sized o → Early o (due_at x p) → Standing o.method o x v n → PolledAt o x p → (g : Bool) (r : Reading) → Reads (due_at x p) g r → Moved o x p v n r
 moved_by o x Off v n z early s c g r w = moved_off o x v n z early s g r w

@@ -17,7 +17,8 @@ use Rattle.mmc.specs.declared.order.Method.TheVariants.{Tao}
 use Rattle.mmc.specs.declared.order.Recipe.TheVariants.{New}
 use Rattle.mmc.proofs.order_block.Laws.{reads_back}
 use Rattle.recorder.specs.Recipes.{under}
-use Rattle.recorder.proofs.Lists.{if_yes, clash, both}
+use Rattle.std.proofs.lemmas.Bool.{and_parts}
+use Rattle.recorder.proofs.Lists.{if_yes, clash}
 use Rattle.recorder.proofs.Behind.{Sized}
 
 rows_length : (k : ℕ) (b : List ℕ) → length (tracks_of k b) ≡ k
@@ -28,8 +29,8 @@ rows_length (suc k) b = ap suc (rows_length k (drop 5 b))
 fields_sized : (b : List ℕ) → valid_order (fields_of b) ≡ true → Sized (fields_of b)
 unfolding valid_order fields_of
 fields_sized b v =
-    let n = both (leb 1 (get_or b 3 0)) _ v in
-    let m = both (leb (get_or b 3 0) most_tracks) _ n.1 in
+    let n = and_parts (leb 1 (get_or b 3 0)) _ v in
+    let m = and_parts (leb (get_or b 3 0) most_tracks) _ n.1 in
     let few : get_or b 3 0 ≤ most_tracks = leb-true _ _ m.0 in
     let rows = rows_length 99 (drop 4 b) in
     record { some = leb-true _ _ n.0; few = few; rows = rows; all = omega (arith, length-take (get_or b 3 0) (tracks_of 99 (drop 4 b)), rows); valid = v }
@@ -40,7 +41,7 @@ read_sized b o = go (eqb (block_fault b) 0) (order_ok b) refl
   where
     go : (x y : Bool) → order_ok b ≡ y → if x (if y (pass (fields_of b)) (refuse 3)) (refuse (block_fault b)) ≡ pass o → Sized o
     go true true q e =
-        let v = (both (valid_order (fields_of b)) _ (both (kinds_ok 99 (drop 4 b)) _ (both (head_ok b) _ q).1).1).0 in
+        let v = (and_parts (valid_order (fields_of b)) _ (and_parts (kinds_ok 99 (drop 4 b)) _ (and_parts (head_ok b) _ q).1).1).0 in
         subst Sized (ap (value_or (fields_of b)) e) (fields_sized b v)
     go true false q e = clash (cc)
     go false y q e = clash (cc)

@@ -13,7 +13,8 @@ use Rattle.recorder.specs.declared.script.Op.TheVariants.{GetConfiguration, Read
 use Rattle.recorder.specs.Script.{is_poll, polls, erasing, gather, blocks_in, closing_in, script}
 use Rattle.recorder.specs.Exchanges.{Exchange, gathered, done_in, polling}
 use Rattle.recorder.specs.Rules.{Judgement, move, judged, left}
-use Rattle.recorder.proofs.Lists.{false_true, gather_append, nothing_after}
+use Rattle.std.proofs.lemmas.Bool.{false≢true}
+use Rattle.recorder.proofs.Lists.{gather_append, nothing_after}
 use Rattle.recorder.proofs.Turns.{made, Played, nothing, then, Asks, a46, a51, a52, a03, Idle, not_good, only_asked, Turn, repeats, refuses, works, polls_begin, erases_first, asks, polls_on, polls_end, turn}
 
 -- ---- what is kept: a part that neither the asking operations nor the polls nor an erasing have
@@ -118,17 +119,17 @@ shape_turn : (p b q : Bool) (x : Op) (l : List Op) (j : Judgement) → Turn p x 
 shape_turn p b q x l j (repeats n) s = s
 shape_turn p b q x l j (refuses k) s = s
 shape_turn p b q x l j (works n) (working z) = working z.1.1
-shape_turn p b q x l j (works n) (asking z) = absurd (false_true (sym n))
-shape_turn p b q x l j (works n) (hearing z) = absurd (false_true (sym n))
+shape_turn p b q x l j (works n) (asking z) = absurd (false≢true (sym n))
+shape_turn p b q x l j (works n) (hearing z) = absurd (false≢true (sym n))
 shape_turn p b q x l j (polls_begin n) (working z) = asking z.1.1
-shape_turn p b q x l j (polls_begin n) (asking z) = absurd (false_true (sym n))
-shape_turn p b q x l j (polls_begin n) (hearing z) = absurd (false_true (sym n))
+shape_turn p b q x l j (polls_begin n) (asking z) = absurd (false≢true (sym n))
+shape_turn p b q x l j (polls_begin n) (hearing z) = absurd (false≢true (sym n))
 shape_turn p b q x l j erases_first (working z) = working (scripted_before erasing l (refl, (refl, tt)) z.0 z.1.1)
-shape_turn p b q x l j asks (working z) = absurd (false_true (sym z.1.0))
+shape_turn p b q x l j asks (working z) = absurd (false≢true (sym z.1.0))
 shape_turn p b q x l j asks (asking z) = hearing z
-shape_turn p b q x l j polls_on (working z) = absurd (false_true (sym z.1.0))
+shape_turn p b q x l j polls_on (working z) = absurd (false≢true (sym z.1.0))
 shape_turn p b q x l j polls_on (hearing z) = asking z
-shape_turn p b q x l j polls_end (working z) = absurd (false_true (sym z.1.0))
+shape_turn p b q x l j polls_end (working z) = absurd (false≢true (sym z.1.0))
 shape_turn p b q x l j polls_end (hearing z) = working z
 
 pub shape : (o : Order) (es : List Exchange) → Scripted (script o) → Played o es → Shape (polling o.immed es) (left o es)

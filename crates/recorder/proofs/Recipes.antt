@@ -24,7 +24,8 @@ use Rattle.recorder.specs.Script.{is_poll, polls, erasing, write, portion, write
 use Rattle.recorder.specs.Exchanges.{Exchange, see, seen}
 use Rattle.recorder.specs.Rules.{too_long, Judgement, onward, polls_if, is_last, judge, judged, rest, move, left, none, found, refused_by, first_refused, ruled, exchanged, play}
 use Rattle.recorder.specs.Recipes.{under, is_function1, other_ops, closing_track, of_function1, others, latest_of_function1, replies_in}
-use Rattle.recorder.proofs.Lists.{if_yes, if_no, clash, false_true, none_found}
+use Rattle.std.proofs.lemmas.Bool.{false≢true}
+use Rattle.recorder.proofs.Lists.{if_yes, if_no, clash, none_found}
 use Rattle.recorder.proofs.Turns.{made, Played, nothing, then, Reads, busy, not_ready_lem, failed, malformed, profile, status, information, indication, ready, unread, reads, Turn, repeats, refuses, works, polls_begin, erases_first, asks, polls_on, polls_end, turn}
 use Rattle.recorder.proofs.Plans.{Scripted, scripted_before}
 use Rattle.recorder.proofs.Scripts.{by, scripted}
@@ -84,17 +85,17 @@ past_function_1 m (CloseTrack t) g r v w q (busy i) e = e
 past_function_1 m (CloseTrack t) g r v w q failed e = e
 past_function_1 m (CloseTrack t) g r v w q (malformed a) e = elim a [ ]
 past_function_1 m (CloseTrack t) g r v w q (unread i n) e = e
-past_function_1 m GetConfiguration g r v w q i e = absurd (false_true q)
-past_function_1 m ReadDiscInformation g r v w q i e = absurd (false_true q)
-past_function_1 m (ReadTrackInformation t) g r v w q i e = absurd (false_true q)
-past_function_1 m (ModeSelect t) g r v w q i e = absurd (false_true q)
-past_function_1 m SendCueSheet g r v w q i e = absurd (false_true q)
-past_function_1 m (Write t f k) g r v w q i e = absurd (false_true q)
-past_function_1 m (SynchronizeCache t) g r v w q i e = absurd (false_true q)
-past_function_1 m CloseSession g r v w q i e = absurd (false_true q)
-past_function_1 m Blank g r v w q i e = absurd (false_true q)
-past_function_1 m TestUnitReady g r v w q i e = absurd (false_true q)
-past_function_1 m RequestSense g r v w q i e = absurd (false_true q)
+past_function_1 m GetConfiguration g r v w q i e = absurd (false≢true q)
+past_function_1 m ReadDiscInformation g r v w q i e = absurd (false≢true q)
+past_function_1 m (ReadTrackInformation t) g r v w q i e = absurd (false≢true q)
+past_function_1 m (ModeSelect t) g r v w q i e = absurd (false≢true q)
+past_function_1 m SendCueSheet g r v w q i e = absurd (false≢true q)
+past_function_1 m (Write t f k) g r v w q i e = absurd (false≢true q)
+past_function_1 m (SynchronizeCache t) g r v w q i e = absurd (false≢true q)
+past_function_1 m CloseSession g r v w q i e = absurd (false≢true q)
+past_function_1 m Blank g r v w q i e = absurd (false≢true q)
+past_function_1 m TestUnitReady g r v w q i e = absurd (false≢true q)
+past_function_1 m RequestSense g r v w q i e = absurd (false≢true q)
 
 past_ready : (m : Method) (g : Bool) (r : Reading) (v w : Seen) → Reads TestUnitReady g r → Alike v w → Alike (see m TestUnitReady r v) w
 past_ready m g r v w (busy i) e = e
@@ -170,10 +171,10 @@ beside_function_1 x l k p g q j z i e h (repeats n) f = working z i
 beside_function_1 x l k p g q j z i e h (refuses n) f = absurd (none_found _ (sym f))
 beside_function_1 x l k p g q j z i e h (works n) f = working z.1.1 (no_op x l k e i)
 beside_function_1 x l k p g q j z i e h (polls_begin n) f = asking_1 z.1.1 (no_op x l k e i) h
-beside_function_1 x l k p g q j z i e h erases_first f = absurd (false_true e)
-beside_function_1 x l k p g q j z i e h asks f = absurd (false_true e)
-beside_function_1 x l k p g q j z i e h polls_on f = absurd (false_true e)
-beside_function_1 x l k p g q j z i e h polls_end f = absurd (false_true e)
+beside_function_1 x l k p g q j z i e h erases_first f = absurd (false≢true e)
+beside_function_1 x l k p g q j z i e h asks f = absurd (false≢true e)
+beside_function_1 x l k p g q j z i e h polls_on f = absurd (false≢true e)
+beside_function_1 x l k p g q j z i e h polls_end f = absurd (false≢true e)
 
 beside_other : {c a b : Bool} (x : Op) (l k : List Op) (p g q : Bool) (j : Judgement) → Scripted (x ∷ l) → k ≡ x ∷ other_ops l → is_function1 x ≡ false → c ≡ false → Turn p x g q j → refused_by j ≡ none → Beside c a b (move j (x ∷ l)) (move j k)
 beside_other x l k p g q j z i e h (repeats n) f = working z (i ∙ sym (same_op x l _ e refl))
@@ -181,9 +182,9 @@ beside_other x l k p g q j z i e h (refuses n) f = absurd (none_found _ (sym f))
 beside_other x l k p g q j z i e h (works n) f = working z.1.1 (ap rest i)
 beside_other x l k p g q j z i e h (polls_begin n) f = asking z.1.1 (ap (λ (d : List Op). TestUnitReady ∷ RequestSense ∷ rest d) i) h
 beside_other x l k p g q j z i e h erases_first f = working (scripted_before erasing l (refl, (refl, tt)) z.0 z.1.1) (ap (λ (d : List Op). Blank ∷ ReadDiscInformation ∷ rest d) i)
-beside_other x l k p g q j z i e h asks f = absurd (false_true (sym z.1.0))
-beside_other x l k p g q j z i e h polls_on f = absurd (false_true (sym z.1.0))
-beside_other x l k p g q j z i e h polls_end f = absurd (false_true (sym z.1.0))
+beside_other x l k p g q j z i e h asks f = absurd (false≢true (sym z.1.0))
+beside_other x l k p g q j z i e h polls_on f = absurd (false≢true (sym z.1.0))
+beside_other x l k p g q j z i e h polls_end f = absurd (false≢true (sym z.1.0))
 
 module _ (o : Order) (es : List Exchange) (x : Op) (l : List Op) (y : Reply) (s : Along o es (others es)) (u : first_refused (under Old o) es ≡ none) (e : left (under Old o) es ≡ x ∷ l) where
   abbrev m : Method
@@ -229,7 +230,7 @@ module _ (o : Order) (es : List Exchange) (x : Op) (l : List Op) (y : Reply) (s 
       (record {
         played = s.played;
         going = λ f. record { unrefused = level.unrefused; alike = a; beside = after_old w k t f };
-        stops = λ z f n. absurd (false_true (sym n ∙ q));
+        stops = λ z f n. absurd (false≢true (sym n ∙ q));
       })
 
   -- it is the same command
@@ -262,7 +263,7 @@ module _ (o : Order) (es : List Exchange) (x : Op) (l : List Op) (y : Reply) (s 
       (beside_function_1 x l k _ y.good _ j z i q (if_no _ _ z.1.0 ∙ q) (turn (under Old o) es x y))
   worked z i false q =
       taken_too (ap (λ (b : Bool). b || (is_poll x && closing_track es)) q ∙ ap (λ (b : Bool). b && closing_track es) z.1.0) (other_ops l) (same_op x l k q i)
-      (λ c. absurd (false_true (sym z.1.0 ∙ ap is_poll c)))
+      (λ c. absurd (false≢true (sym z.1.0 ∙ ap is_poll c)))
       (beside_other x l k _ y.good _ j z (same_op x l k q i) q (if_no _ _ z.1.0 ∙ q) (turn (under Old o) es x y))
 
 -- with a poll due: of another operation, or of function 1
@@ -280,12 +281,12 @@ module _ (o : Order) (es : List Exchange) (n : List Op) (y : Reply) (s : Along o
   asked e i q = taken_too o es TestUnitReady (RequestSense ∷ n) y s u e q (RequestSense ∷ other_ops n) i (λ c. clash (cc)) (on y.good (reading TestUnitReady y) (reads TestUnitReady y))
     where
       on : (g : Bool) (r : Reading) → Reads TestUnitReady g r → refused_by (judge (under Old o) sn TestUnitReady r) ≡ none → Beside (closing_track es) (see o.method TestUnitReady r sn).ready (see o.method TestUnitReady r (seen o.method (others es))).ready (move (judge (under Old o) sn TestUnitReady r) (TestUnitReady ∷ RequestSense ∷ n)) (move (judge (under Old o) sn TestUnitReady r) new-left)
-      on g r (busy b) f = absurd (false_true (sym b))
+      on g r (busy b) f = absurd (false≢true (sym b))
       on g r not_ready_lem f = hearing z (ap rest i) q refl
       on g r failed f = absurd (none_found _ (sym f))
       on g r (malformed a) f = elim a [ ]
       on g r ready f = hearing z (ap rest i) q refl
-      on g r (unread a b) f = absurd (false_true (sym b))
+      on g r (unread a b) f = absurd (false≢true (sym b))
 
   heard : left (under Old o) es ≡ RequestSense ∷ n → new-left ≡ RequestSense ∷ other_ops n → closing_track es ≡ false → sn.ready ≡ (seen o.method (others es)).ready → Along o (after RequestSense ∷ es) (others (after RequestSense ∷ es))
   heard e i q h = taken_too o es RequestSense n y s u e q (other_ops n) i (λ c. h) (on y.good (reading RequestSense y) (reads RequestSense y))
@@ -297,18 +298,18 @@ module _ (o : Order) (es : List Exchange) (n : List Op) (y : Reply) (s : Along o
       on g r (indication {n = d}) f =
           heard_beside (λ (c : Judgement). Beside (closing_track es) false false (move c (RequestSense ∷ n)) (move c new-left)) (is_last sn.ready d)
           (working z (ap rest i)) (asking z (ap (λ (k : List Op). TestUnitReady ∷ RequestSense ∷ rest k) i) q)
-      on g r (unread a b) f = absurd (false_true (sym b))
+      on g r (unread a b) f = absurd (false≢true (sym b))
 
   asked_1 : left (under Old o) es ≡ TestUnitReady ∷ RequestSense ∷ n → new-left ≡ other_ops n → closing_track es ≡ true → Along o (after TestUnitReady ∷ es) (others (after TestUnitReady ∷ es))
   asked_1 e i q = left_out o es TestUnitReady (RequestSense ∷ n) y s u e q (past_ready o.method y.good _ _ _ (reads TestUnitReady y) (s.going u).alike) (on y.good (reading TestUnitReady y) (reads TestUnitReady y))
     where
       on : (g : Bool) (r : Reading) → Reads TestUnitReady g r → refused_by (judge (under Old o) sn TestUnitReady r) ≡ none → Beside (closing_track es) (see o.method TestUnitReady r sn).ready (seen o.method (others es)).ready (move (judge (under Old o) sn TestUnitReady r) (TestUnitReady ∷ RequestSense ∷ n)) new-left
-      on g r (busy b) f = absurd (false_true (sym b))
+      on g r (busy b) f = absurd (false≢true (sym b))
       on g r not_ready_lem f = hearing_1 z i q
       on g r failed f = absurd (none_found _ (sym f))
       on g r (malformed a) f = elim a [ ]
       on g r ready f = hearing_1 z i q
-      on g r (unread a b) f = absurd (false_true (sym b))
+      on g r (unread a b) f = absurd (false≢true (sym b))
 
   heard_1 : left (under Old o) es ≡ RequestSense ∷ n → new-left ≡ other_ops n → closing_track es ≡ true → Along o (after RequestSense ∷ es) (others (after RequestSense ∷ es))
   heard_1 e i q = left_out o es RequestSense n y s u e q (past_sense o.method y.good _ _ _ (reads RequestSense y) (s.going u).alike) (on y.good (reading RequestSense y) (reads RequestSense y))
@@ -319,7 +320,7 @@ module _ (o : Order) (es : List Exchange) (n : List Op) (y : Reply) (s : Along o
       on g r (malformed a) f = absurd (none_found _ (sym f))
       on g r (indication {n = d}) f =
           heard_beside (λ (c : Judgement). Beside (closing_track es) false (seen o.method (others es)).ready (move c (RequestSense ∷ n)) new-left) (is_last sn.ready d) (working z i) (asking_1 z i q)
-      on g r (unread a b) f = absurd (false_true (sym b))
+      on g r (unread a b) f = absurd (false≢true (sym b))
 
 along_by : (o : Order) (es : List Exchange) (x : Op) (l : List Op) (y : Reply) → Along o es (others es) → first_refused (under Old o) es ≡ none → left (under Old o) es ≡ x ∷ l → Beside (closing_track es) (seen o.method es).ready (seen o.method (others es)).ready (x ∷ l) (left (under New o) (others es)) → Along o (made (under Old o) es x y ∷ es) (others (made (under Old o) es x y ∷ es))
 along_by o es x l y s u e (working z i) = worked o es x l y s u e z i (is_function1 x) refl

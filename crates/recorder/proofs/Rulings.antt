@@ -13,7 +13,8 @@ use Rattle.recorder.specs.Script.{is_poll, gather, Block, ordered, blocks_in, cl
 use Rattle.recorder.specs.Exchanges.{Exchange, recorded, closed, polling}
 use Rattle.recorder.specs.Rules.{Judgement, move, judged, left, Found, none, found, or_else, refused_by, first_refused, answer_to, ruled}
 use Rattle.recorder.specs.History.{Each, Unskipped}
-use Rattle.recorder.proofs.Lists.{clash, false_true, none_found}
+use Rattle.std.proofs.lemmas.Bool.{false≢true}
+use Rattle.recorder.proofs.Lists.{clash, none_found}
 use Rattle.recorder.proofs.Turns.{made, Played, nothing, then, Turn, repeats, refuses, works, polls_begin, erases_first, asks, polls_on, polls_end, turn}
 use Rattle.recorder.proofs.Plans.{kept, blocks_ignore, closings_ignore, Shape, working, asking, hearing, shape}
 use Rattle.recorder.proofs.Scripts.{script_blocks, scripted}
@@ -89,8 +90,8 @@ rule_order o es p = (gather blocks_in (left o es), blocks_kept o es p)
 nothing_left : (b : Bool) (l : List Op) → Shape b l → b ≡ false → length (gather closing_in l) ≡ 0 → l ≡ []
 nothing_left b [] z f e = refl
 nothing_left b (x ∷ l) (working z) f e = let w = z.0 in absurd (omega arith)
-nothing_left b (x ∷ l) (asking z) f e = absurd (false_true (sym f))
-nothing_left b (x ∷ l) (hearing z) f e = absurd (false_true (sym f))
+nothing_left b (x ∷ l) (asking z) f e = absurd (false≢true (sym f))
+nothing_left b (x ∷ l) (hearing z) f e = absurd (false≢true (sym f))
 
 -- no polling is under way where nothing is left
 calm_end : (b : Bool) → Shape b [] → b ≡ false

@@ -19,8 +19,8 @@ use Rattle.mmc.specs.declared.order.Recipe.{Recipe}
 use Rattle.mmc.specs.declared.order.Recipe.TheVariants.{Old, New}
 use Rattle.recorder.specs.declared.script.Op.{Op}
 use Rattle.recorder.specs.declared.script.Op.TheVariants.{GetConfiguration, ReadDiscInformation, ReadTrackInformation, ModeSelect, SendCueSheet, Write, SynchronizeCache, CloseTrack, CloseSession, Blank, TestUnitReady, RequestSense}
-use Rattle.recorder.specs.declared.places.Following.{Following}
-use Rattle.recorder.specs.declared.places.Following.TheVariants.{Next as Then, Nothing}
+use Rattle.std.specs.declared.option.Option.{Option}
+use Rattle.std.specs.declared.option.Option.TheVariants.{Some, None}
 use Rattle.recorder.specs.declared.replies.TrackInformation.{TrackInformation}
 use Rattle.recorder.specs.declared.replies.Reading.{Reading}
 use Rattle.recorder.specs.declared.replies.Reading.TheVariants.{Unread}
@@ -29,7 +29,8 @@ use Rattle.recorder.specs.Script.{takes_immed, write, portion}
 use Rattle.recorder.specs.Exchanges.{Named, see, name}
 use Rattle.recorder.specs.Rules.{still, needed, lead_out, last_frame, fits, track_tests, judge, none, refused_by}
 use Rattle.recorder.specs.Places.{piece_ended, before_block, after_track, after_synchronize, piece_of, after_in}
-use Rattle.recorder.proofs.Lists.{none_found, false_true, both, passed_clear}
+use Rattle.std.proofs.lemmas.Bool.{and_parts, false≢true}
+use Rattle.recorder.proofs.Lists.{none_found, passed_clear}
 use Rattle.recorder.proofs.Turns.{is_asking, Reads, malformed, profile, status, information, indication, ready, unread}
 use Rattle.recorder.proofs.Scripts.{by}
 use Rattle.recorder.specs.History.{Recordable}
@@ -49,8 +50,8 @@ blocks_less o t h = ap blocks_of (drop-cons (tracks_in o) t no_track h) ∙ ap (
 long_in : (xs : List Track) (t : ℕ) → all_long xs ≡ true → t < length xs → least_blocks ≤ (get_or xs t no_track).length.0
 unfolding all_long
 long_in [] t e h = absurd (omega arith)
-long_in (x ∷ xs) zero e h = leb-true _ _ (both (leb least_blocks x.length.0) (all_long xs) e).0
-long_in (x ∷ xs) (suc t) e h = long_in xs t (both (leb least_blocks x.length.0) (all_long xs) e).1 (omega arith)
+long_in (x ∷ xs) zero e h = leb-true _ _ (and_parts (leb least_blocks x.length.0) (all_long xs) e).0
+long_in (x ∷ xs) (suc t) e h = long_in xs t (and_parts (leb least_blocks x.length.0) (all_long xs) e).1 (omega arith)
 
 -- no track is empty
 pub long_at : (o : Order) (t : ℕ) → all_long (tracks_in o) ≡ true → t < length (tracks_in o) → 0 < piece_of o (suc t)
@@ -108,9 +109,9 @@ Standing m o Blank v n = (o.erase ≡ true) × (v.at.0 ≡ 0)
 Standing m o TestUnitReady v n = ⊥
 Standing m o RequestSense v n = ⊥
 
-abbrev pub StandingThen : Method → Order → Following → Seen → Named → Type 0
-StandingThen m o (Then x) v n = Standing m o x v n
-StandingThen m o Nothing v n = Unit {0}
+abbrev pub StandingThen : Method → Order → Option Op → Seen → Named → Type 0
+StandingThen m o (Some x) v n = Standing m o x v n
+StandingThen m o None v n = Unit {0}
 
 -- ---- within a piece
 
@@ -148,7 +149,7 @@ in_session o t f v n z i p = go (ltb f (piece_of (by o Sao) t)) refl
 
 pub limits : (m : Method) (s : ℕ) (i : TrackInformation) → not (fits m s i) ≡ false → (s ≤ i.free.0) × (lead_out m s i ≤ last_frame)
 unfolding fits
-limits m s i e = let p = both (leb s i.free.0) (leb (lead_out m s i) last_frame) (not-false _ e) in (leb-true _ _ p.0, leb-true _ _ p.1)
+limits m s i e = let p = and_parts (leb s i.free.0) (leb (lead_out m s i) last_frame) (not-false _ e) in (leb-true _ _ p.0, leb-true _ _ p.1)
 
 pub fits_within : (m : Method) (s : ℕ) (i : TrackInformation) → s ≤ i.free.0 → lead_out m s i ≤ last_frame → not (fits m s i) ≡ false
 unfolding fits
@@ -201,12 +202,12 @@ first_track Sao o v n z s = (refl, s)
 -- where an operation stands that takes Immed, and what comes after it, hangs on nothing that is seen or named but where the next block
 -- goes: polls may come in between
 pub standing_closing : (m : Method) (o : Order) (x : Op) (v w : Seen) (n k : Named) → Standing m o x v n → takes_immed x ≡ true → w.at.0 ≡ v.at.0 → Standing m o x w k
-standing_closing m o GetConfiguration v w n k s c e = absurd (false_true c)
-standing_closing m o ReadDiscInformation v w n k s c e = absurd (false_true c)
-standing_closing m o (ReadTrackInformation t) v w n k s c e = absurd (false_true c)
-standing_closing m o (ModeSelect t) v w n k s c e = absurd (false_true c)
-standing_closing m o SendCueSheet v w n k s c e = absurd (false_true c)
-standing_closing m o (Write t f d) v w n k s c e = absurd (false_true c)
+standing_closing m o GetConfiguration v w n k s c e = absurd (false≢true c)
+standing_closing m o ReadDiscInformation v w n k s c e = absurd (false≢true c)
+standing_closing m o (ReadTrackInformation t) v w n k s c e = absurd (false≢true c)
+standing_closing m o (ModeSelect t) v w n k s c e = absurd (false≢true c)
+standing_closing m o SendCueSheet v w n k s c e = absurd (false≢true c)
+standing_closing m o (Write t f d) v w n k s c e = absurd (false≢true c)
 standing_closing m o (SynchronizeCache t) v w n k s c e = s
 standing_closing Tao o (CloseTrack t) v w n k s c e = s
 standing_closing Sao o (CloseTrack t) v w n k s c e = absurd s
@@ -217,12 +218,12 @@ standing_closing m o TestUnitReady v w n k s c e = absurd s
 standing_closing m o RequestSense v w n k s c e = absurd s
 
 stood_closing : (m : Method) (o : Order) (x : Op) (v w : Seen) (n k : Named) → Standing m (by o m) x v n → takes_immed x ≡ true → w.at.0 ≡ v.at.0 → StandingThen m (by o m) (after_in (by o m) x) w k
-stood_closing m o GetConfiguration v w n k s c e = absurd (false_true c)
-stood_closing m o ReadDiscInformation v w n k s c e = absurd (false_true c)
-stood_closing m o (ReadTrackInformation t) v w n k s c e = absurd (false_true c)
-stood_closing m o (ModeSelect t) v w n k s c e = absurd (false_true c)
-stood_closing m o SendCueSheet v w n k s c e = absurd (false_true c)
-stood_closing m o (Write t f d) v w n k s c e = absurd (false_true c)
+stood_closing m o GetConfiguration v w n k s c e = absurd (false≢true c)
+stood_closing m o ReadDiscInformation v w n k s c e = absurd (false≢true c)
+stood_closing m o (ReadTrackInformation t) v w n k s c e = absurd (false≢true c)
+stood_closing m o (ModeSelect t) v w n k s c e = absurd (false≢true c)
+stood_closing m o SendCueSheet v w n k s c e = absurd (false≢true c)
+stood_closing m o (Write t f d) v w n k s c e = absurd (false≢true c)
 stood_closing Tao o (SynchronizeCache t) v w n k s c e = synchronized o.recipe o t.0 w k refl s
 stood_closing Sao o (SynchronizeCache t) v w n k s c e = tt
 stood_closing Tao o (CloseTrack t) v w n k s c e = after_closed o t.0 w k
@@ -234,9 +235,9 @@ stood_closing m o RequestSense v w n k s c e = absurd s
 
 -- within the tracks: the reply is not read
 stood_on : (m : Method) (o : Order) (x : Op) (v : Seen) (n : Named) → Sized o → Standing m (by o m) x v n → is_asking x ≡ false → StandingThen m (by o m) (after_in (by o m) x) (see m x Unread v) n
-stood_on m o GetConfiguration v n z s q = absurd (false_true (sym q))
-stood_on m o ReadDiscInformation v n z s q = absurd (false_true (sym q))
-stood_on m o (ReadTrackInformation t) v n z s q = absurd (false_true (sym q))
+stood_on m o GetConfiguration v n z s q = absurd (false≢true (sym q))
+stood_on m o ReadDiscInformation v n z s q = absurd (false≢true (sym q))
+stood_on m o (ReadTrackInformation t) v n z s q = absurd (false≢true (sym q))
 stood_on Tao o (ModeSelect t) v n z s q = let e = s.1 in in_track o t.0 0 (see Tao (ModeSelect t) Unread v) n s.0 (omega arith)
 stood_on Sao o (ModeSelect t) v n z s q = (s.0, s.1.1)
 stood_on Tao o SendCueSheet v n z s q = absurd s

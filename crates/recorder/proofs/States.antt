@@ -35,7 +35,8 @@ use Rattle.recorder.specs.Rules.{last_frame}
 use Rattle.recorder.specs.Places.{piece_of}
 use Rattle.recorder.specs.Job.{due_at, command_of, latest_progress, in_order, in_time, in_piece, is_write, stands_at, stands_in, stands_polled, stands_erasing, stands}
 use Rattle.recorder.specs.History.{Accompanied, FreshWrite}
-use Rattle.recorder.proofs.Lists.{if_yes, if_no, false_true, neither, frames_back, clash}
+use Rattle.std.proofs.lemmas.Bool.{false≢true, or_parts}
+use Rattle.recorder.proofs.Lists.{if_yes, if_no, frames_back, clash}
 use Rattle.recorder.proofs.Scripts.{by}
 use Rattle.recorder.proofs.Behind.{Sized}
 use Rattle.recorder.proofs.Standing.{blocks_less, long_at, InOrder, InSession, IsWrite, Standing}
@@ -157,7 +158,7 @@ fresh_by o c v n t f k a s =
 
 fresh_in : (m : Method) (o : Order) (x : Op) (c : Command) (v : Seen) (n : Named) → (frames_to c.address).0 ≡ v.at.0 → stepwise m ≡ true → Standing m o x v n → (t f k : ℕ) → x ≡ write t f k → FreshWrite n c t f k
 fresh_in Tao o x c v n a w s t f k e = fresh_by o c v n t f k a (subst (λ (y : Op). Standing Tao o y v n) e s)
-fresh_in Sao o x c v n a w s t f k e = absurd (false_true w)
+fresh_in Sao o x c v n a w s t f k e = absurd (false≢true w)
 
 -- a poll is no WRITE
 fresh_at : (o : Order) (x : Op) (p : Poll) (v : Seen) (n : Named) → stepwise o.method ≡ true → Standing o.method o x v n → (t f k : ℕ) → due_at x p ≡ write t f k → FreshWrite n (command_of (at x p v)) t f k
@@ -184,7 +185,7 @@ sheet_length o n = let i = entries_length (order_kind o) (record { 0 = 1 }) (rec
 no_fault : (o : Order) → valid_order (by o Sao) ≡ true → InSession (by o Sao) → sheet_fault (by o Sao) ≡ 0
 unfolding sheet_fault mixed_or_kept overlong
 no_fault o v i =
-    let a = neither o.keep _ i.alike in
+    let a = or_parts o.keep _ i.alike in
     let k : all_kind (order_kind o) (tracks_in o) ≡ true = not-false _ a.1 in
     let l : ltb last_address (blocks_of (tracks_in o)) ≡ false = le-ltb _ _ i.limit in
     rw v (simp (a.0, k, i.long, l))
@@ -199,7 +200,7 @@ page_so o k v q = rw (v, q)
 
 not_kept : (o : Order) → InSession (by o Sao) → o.keep ≡ false
 unfolding mixed_or_kept
-not_kept o i = (neither o.keep _ i.alike).0
+not_kept o i = (or_parts o.keep _ i.alike).0
 
 accompanied_by : (m : Method) (o : Order) (x : Op) (v : Seen) (n : Named) → Sized (by o m) → Standing m (by o m) x v n → Accompanied (by o m) x
 accompanied_by m o x v n z s =

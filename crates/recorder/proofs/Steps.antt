@@ -22,7 +22,8 @@ use Rattle.recorder.specs.Exchanges.{Exchange, seen, named}
 use Rattle.recorder.specs.Rules.{judged, move, left, none, found, refused_by, first_refused, ruled, exchanged}
 use Rattle.recorder.specs.Job.{Next, due_at, command_of, Turn, goes, turn_of, most_commands, one_more, state_of, next_of, phase_of, step_of, unchanged, stands, rests_at, valid_of, give_of}
 use Rattle.recorder.specs.History.{History, given, command_in, commands, Ending, going, as_done, as_stop, ending, sooner, ended, phase_in, Each, Fresh, answered}
-use Rattle.recorder.proofs.Lists.{if_yes, false_true, same_order}
+use Rattle.std.proofs.lemmas.Bool.{false≢true}
+use Rattle.recorder.proofs.Lists.{if_yes, same_order}
 use Rattle.recorder.proofs.Turns.{made, Played, then}
 use Rattle.recorder.proofs.Rulings.{refused_next, ruled_at, ruled_stop}
 use Rattle.recorder.proofs.Erasing.{was_recordable}
@@ -76,7 +77,7 @@ pub data Inv : Outcome Order → ℕ → History → Type 0 where
 
 -- a reply that answers nothing
 pub no_exchange : (a : Ruling) (y : Reply) (es : List Exchange) → is_end a ≡ true → exchanged a y es ≡ es
-no_exchange (issue c) y es e = absurd (false_true e)
+no_exchange (issue c) y es e = absurd (false≢true e)
 no_exchange done y es e = refl
 no_exchange (stop w) y es e = refl
 

@@ -23,8 +23,8 @@ use Rattle.mmc.specs.declared.order.Recipe.{Recipe}
 use Rattle.mmc.specs.declared.order.Recipe.TheVariants.{Old, New}
 use Rattle.recorder.specs.declared.script.Op.{Op}
 use Rattle.recorder.specs.declared.script.Op.TheVariants.{GetConfiguration, ReadDiscInformation, ReadTrackInformation, ModeSelect, SendCueSheet, Write, SynchronizeCache, CloseTrack, CloseSession, Blank, TestUnitReady, RequestSense}
-use Rattle.recorder.specs.declared.places.Following.{Following}
-use Rattle.recorder.specs.declared.places.Following.TheVariants.{Next as Then, Nothing}
+use Rattle.std.specs.declared.option.Option.{Option}
+use Rattle.std.specs.declared.option.Option.TheVariants.{Some, None}
 use Rattle.recorder.specs.declared.job.Poll.{Poll}
 use Rattle.recorder.specs.declared.job.Poll.TheVariants.{Off, Ready, Sense}
 use Rattle.recorder.specs.declared.replies.DiscInformation.{DiscInformation}
@@ -40,7 +40,8 @@ use Rattle.recorder.specs.Rules.{other_profile, last_status, unsuitable, unusabl
 use Rattle.recorder.specs.Places.{piece_ended, before_block, after_track, op_after, piece_of, after_in}
 use Rattle.recorder.specs.Job.{due_at}
 use Rattle.recorder.specs.History.{informations_in, informations, drive_gap, Follows, AllMarkedGood, Bytes, AllBytes, discs_in, discs, Passing, Recordable, Suitable}
-use Rattle.recorder.proofs.Lists.{if_yes, if_no, false_true, both, neither, Clear, clear_passes, nothing_after, blocks_length}
+use Rattle.std.proofs.lemmas.Bool.{and_parts, false≢true, or_parts}
+use Rattle.recorder.proofs.Lists.{if_yes, if_no, Clear, clear_passes, nothing_after, blocks_length}
 use Rattle.recorder.proofs.Turns.{made, Played, played, is_asking, Reads, busy, not_ready_lem, failed, malformed, profile, status, information, indication, ready, unread, reads, profile_seen, erased_seen}
 use Rattle.recorder.proofs.Scripts.{by, each_blocks}
 use Rattle.recorder.proofs.Rulings.{refused_next, ruled_at}
@@ -240,9 +241,9 @@ write_ahead zero f k l h = absurd (omega arith)
 write_ahead (suc t) f k l h = let a = length-append (blocks (suc t) f k) (gather blocks_in l) in let b = blocks_length (suc t) f k in omega arith
 
 room_on : (o : Order) (x : Op) (v : Seen) (n : Named) → Standing Tao (by o Tao) x v n → RoomBy Tao o v.at (x ∷ behind (by o Tao) x) → is_asking x ≡ false → RoomBy Tao o (see Tao x Unread v).at (behind (by o Tao) x)
-room_on o GetConfiguration v n s r q = absurd (false_true (sym q))
-room_on o ReadDiscInformation v n s r q = absurd (false_true (sym q))
-room_on o (ReadTrackInformation t) v n s r q = absurd (false_true (sym q))
+room_on o GetConfiguration v n s r q = absurd (false≢true (sym q))
+room_on o ReadDiscInformation v n s r q = absurd (false≢true (sym q))
+room_on o (ReadTrackInformation t) v n s r q = absurd (false≢true (sym q))
 room_on o (ModeSelect t) v n s r q = r
 room_on o SendCueSheet v n s r q = absurd s
 room_on o (Write t f c) v n s r q =
@@ -258,9 +259,9 @@ room_on o RequestSense v n s r q = absurd s
 
 -- ---- what comes next is never A1h: only the first 51h puts it in front
 
-abbrev NotErasing : Following → Type 0
-NotErasing (Then x) = is_erasing x ≡ false
-NotErasing Nothing = Unit {0}
+abbrev NotErasing : Option Op → Type 0
+NotErasing (Some x) = is_erasing x ≡ false
+NotErasing None = Unit {0}
 
 block_plain : (m : Method) (n l k t f : ℕ) → is_erasing (before_block m n l k t f) ≡ false
 unfolding before_block piece_ended
@@ -314,7 +315,7 @@ module _ (o : Order) (z : Sized o) (ok : Recordable o) (p : ℕ) (d : DiscInform
 
   -- with the flag and without
   erasable_so : o.erase ≡ true → (ltb 2 d.status ≡ false) × (not_erasable p d ≡ false)
-  erasable_so e = neither (ltb 2 d.status) (not_erasable p d) (ap (λ (b : Bool). if b (ltb 2 d.status || not_erasable p d) (unsuitable o.method d.status)) (sym e) ∙ su.disc_so)
+  erasable_so e = or_parts (ltb 2 d.status) (not_erasable p d) (ap (λ (b : Bool). if b (ltb 2 d.status || not_erasable p d) (unsuitable o.method d.status)) (sym e) ∙ su.disc_so)
 
   suitable_so : o.erase ≡ false → unsuitable o.method d.status ≡ false
   suitable_so e = ap (λ (b : Bool). if b (ltb 2 d.status || not_erasable p d) (unsuitable o.method d.status)) (sym e) ∙ su.disc_so
@@ -587,7 +588,7 @@ module _ (o : Order) (z : Sized o) (ok : Recordable o) (p : ℕ) (d : DiscInform
   told_next (SynchronizeCache t) v ds n s i k r = told_unread (SynchronizeCache t) v ds n s i k r refl
   told_next (CloseTrack t) v ds n s i k r = told_unread (CloseTrack t) v ds n s i k r refl
   told_next CloseSession v ds n s i k r = told_unread CloseSession v ds n s i k r refl
-  told_next Blank v ds n s i k r = absurd (false_true (sym i))
+  told_next Blank v ds n s i k r = absurd (false≢true (sym i))
   told_next TestUnitReady v ds n s i k r = absurd s
   told_next RequestSense v ds n s i k r = absurd s
 
@@ -639,14 +640,14 @@ module _ (o : Order) (z : Sized o) (ok : Recordable o) (p : ℕ) (d : DiscInform
   behind_stage : (x : Op) (v w : Seen) (n k : Named) (ds : Discs) → Standing o.method o x v n → StandingThen o.method o (after_in o x) w k → Known w ds → RoomBy o.method o w.at (behind o x) → Stage (weigh (behind o x)) (behind o x) w k ds
   behind_stage x v w n k ds s h b r = go (after_in o x) refl h (after_plain o.method o.recipe o.count _ _ x)
     where
-      on : (a : Following) → after_in o x ≡ a → behind o x ≡ onto o a
+      on : (a : Option Op) → after_in o x ≡ a → behind o x ≡ onto o a
       on a e = goes_on o x z (standing_goes o.method o x v n z s) ∙ ap (onto o) e
 
-      go : (a : Following) → after_in o x ≡ a → StandingThen o.method o (after_in o x) w k → NotErasing (after_in o x) → Stage (weigh (behind o x)) (behind o x) w k ds
-      go (Then y) e h i =
-          at_op y Off (on (Then y) e) (record { standing = subst (λ (a : Following). StandingThen o.method o a w k) e h; polled_at = tt }) (subst NotErasing e i) b
-          (subst (λ (l : List Op). RoomBy o.method o w.at l) (on (Then y) e) r) refl
-      go Nothing e h i = over (on Nothing e) b (ap weigh (on Nothing e))
+      go : (a : Option Op) → after_in o x ≡ a → StandingThen o.method o (after_in o x) w k → NotErasing (after_in o x) → Stage (weigh (behind o x)) (behind o x) w k ds
+      go (Some y) e h i =
+          at_op y Off (on (Some y) e) (record { standing = subst (λ (a : Option Op). StandingThen o.method o a w k) e h; polled_at = tt }) (subst NotErasing e i) b
+          (subst (λ (l : List Op). RoomBy o.method o w.at l) (on (Some y) e) r) refl
+      go None e h i = over (on None e) b (ap weigh (on None e))
 
   -- what a reply leads to: a judgement that refuses nothing, and one reply less to come
   record Led (c : ℕ) (l : List Op) (j : Judgement) (w : Seen) (k : Named) (ds : Discs) : Type 0 where
@@ -661,7 +662,7 @@ module _ (o : Order) (z : Sized o) (ok : Recordable o) (p : ℕ) (d : DiscInform
   immed_kept m x r v c (malformed a) = refl
   immed_kept m x r v c profile = refl
   immed_kept m x r v c status = refl
-  immed_kept m x r v c information = absurd (false_true c)
+  immed_kept m x r v c information = absurd (false≢true c)
   immed_kept m x r v c indication = refl
   immed_kept m x r v c ready = refl
   immed_kept m x r v c (unread q i) = immed_at x v c
@@ -672,7 +673,7 @@ module _ (o : Order) (z : Sized o) (ok : Recordable o) (p : ℕ) (d : DiscInform
     where
       go : (b : Bool) → is_polled o.immed x ≡ b → Led (weigh (x ∷ behind o x)) (x ∷ behind o x) (polls_if b) (see o.method x r v) (name x r n) (ds ++ discs_in r)
       go true q =
-          let c : takes_immed x ≡ true = (both (takes_immed x) _ q).0 in
+          let c : takes_immed x ≡ true = (and_parts (takes_immed x) _ q).0 in
           let g : weight x ≡ 3 = if_yes _ _ q in
           record {
             unrefusing = refl;
@@ -694,7 +695,7 @@ module _ (o : Order) (z : Sized o) (ok : Recordable o) (p : ℕ) (d : DiscInform
         unrefusing = refl;
         stage =
             fewer _ (weigh (plan_at o x Sense)) _ _ _ _ (omega arith)
-            (at_op x Sense refl (record { standing = standing_closing o.method o x v _ n n s (both (takes_immed x) _ c).0 refl; polled_at = c }) refl (still_known v _ ds refl refl refl b, refl) r refl);
+            (at_op x Sense refl (record { standing = standing_closing o.method o x v _ n n s (and_parts (takes_immed x) _ c).0 refl; polled_at = c }) refl (still_known v _ ds refl refl refl b, refl) r refl);
       }
 
   -- and 03h
@@ -708,7 +709,7 @@ module _ (o : Order) (z : Sized o) (ok : Recordable o) (p : ℕ) (d : DiscInform
       ended =
           record {
             unrefusing = refl;
-            stage = fewer _ (weigh (behind o x)) _ _ _ _ (omega arith) (behind_stage x v _ n n _ s (stood_polled o x v _ n n s (both (takes_immed x) _ c).0 refl) (still_known v _ ds refl refl refl b) r);
+            stage = fewer _ (weigh (behind o x)) _ _ _ _ (omega arith) (behind_stage x v _ n n _ s (stood_polled o x v _ n n s (and_parts (takes_immed x) _ c).0 refl) (still_known v _ ds refl refl refl b) r);
           }
 
   no_progress : (v : Seen) → reading RequestSense (replyTo RequestSense v) ≡ ProgressIndication 0
@@ -753,7 +754,7 @@ module _ (o : Order) (z : Sized o) (ok : Recordable o) (p : ℕ) (d : DiscInform
       go : (b : Bool) → wipes ≡ b → Led c (plan_at o ReadDiscInformation Off) (onward (erasing_if b)) w n (ds ++ (d ∷ []))
       go true f =
           let g : wiping ≡ weight Blank + 1 = if_yes _ _ f in
-          record { unrefusing = refl; stage = fewer c _ _ _ _ _ (omega arith) (at_erasing refl ((both o.erase _ f).0, s) a f told (erasing_room o.method v.at _ r) refl) }
+          record { unrefusing = refl; stage = fewer c _ _ _ _ _ (omega arith) (at_erasing refl ((and_parts o.erase _ f).0, s) a f told (erasing_room o.method v.at _ r) refl) }
       go false f =
           let g : wiping ≡ 0 = if_no _ _ f in
           record {
@@ -773,7 +774,7 @@ module _ (o : Order) (z : Sized o) (ok : Recordable o) (p : ℕ) (d : DiscInform
         knows =
             record {
               profile_known = a;
-              status_known = λ h. absurd (false_true (sym h ∙ (both o.erase _ f).0));
+              status_known = λ h. absurd (false≢true (sym h ∙ (and_parts o.erase _ f).0));
               erased_known = sym f;
               discs_known = more_discs ds [] ([], i);
             };
@@ -868,7 +869,7 @@ module _ (o : Order) (z : Sized o) (ok : Recordable o) (p : ℕ) (d : DiscInform
   unsaid x g r f (malformed a) = refl
   unsaid x g r f profile = refl
   unsaid x g r f status = refl
-  unsaid x g r f information = absurd (false_true (sym f))
+  unsaid x g r f information = absurd (false≢true (sym f))
   unsaid x g r f indication = refl
   unsaid x g r f ready = refl
   unsaid x g r f (unread q n) = refl

@@ -1,8 +1,8 @@
 -- The plain job: "It holds the order, the fields read, its place in the sequence of commands above, start and end of the latest
 -- track, and the command count."
-use Rattle.std.specs.Prelude.{◌≡◌, Bool, true, false, not, ◌&&◌, ◌||◌, List, [], ◌∷◌, ℕ, suc, ◌+◌, ◌-◌, ◌^◌, min, ltb, leb, eqb}
+use Rattle.std.specs.Prelude.{◌≡◌, Bool, true, false, not, ◌&&◌, ◌||◌, List, [], ◌∷◌, ℕ, suc, ◌+◌, ◌-◌, ◌^◌, min, ltb, leb, eqb, Option, Some, None, Result, Ok, Err}
 use Rattle.basics.specs.Bytes.{if}
-use Rattle.mmc.specs.Refusals.{Outcome, pass, refuse, number_of}
+use Rattle.mmc.specs.Refusals.{Outcome, pass, refuse}
 use Rattle.mmc.specs.Order.{most_tracks, no_order}
 use Rattle.mmc.specs.OrderBlock.{read_order}
 use Rattle.mmc.specs.Times.{address_at}
@@ -14,8 +14,6 @@ use Rattle.mmc.specs.declared.order.Method.TheVariants.{Tao, Sao}
 use Rattle.mmc.specs.declared.order.Recipe.{Recipe}
 use Rattle.recorder.specs.declared.script.Op.{Op}
 use Rattle.recorder.specs.declared.script.Op.TheVariants.{GetConfiguration, ReadDiscInformation, ReadTrackInformation, ModeSelect, SendCueSheet, Write, SynchronizeCache, CloseTrack, CloseSession, Blank, TestUnitReady, RequestSense}
-use Rattle.recorder.specs.declared.places.Following.{Following}
-use Rattle.recorder.specs.declared.places.Following.TheVariants.{Next as Then, Nothing}
 use Rattle.recorder.specs.declared.answers.Command.{Command}
 use Rattle.recorder.specs.declared.answers.Cdb.{Cdb}
 use Rattle.recorder.specs.declared.replies.Reading.{Reading}
@@ -24,8 +22,7 @@ use Rattle.recorder.specs.declared.job.Phase.{Phase}
 use Rattle.recorder.specs.declared.job.Phase.TheVariants.{Idle, Going, Finished, Stopped, Failed}
 use Rattle.recorder.specs.declared.job.Poll.{Poll}
 use Rattle.recorder.specs.declared.job.Poll.TheVariants.{Off, Ready, Sense}
-use Rattle.recorder.specs.declared.job.Move.{Move}
-use Rattle.recorder.specs.declared.job.Move.TheVariants as M
+use Rattle.recorder.specs.declared.rules.Stop.{Stop}
 use Rattle.recorder.specs.declared.job.Progress.{Progress}
 use Rattle.recorder.specs.declared.job.Recorder.{Recorder}
 use Rattle.recorder.specs.declared.job.Step.{Step}
@@ -34,7 +31,7 @@ use Rattle.recorder.specs.Answers.{Why, because, drive_failed, Ruling, issue, do
 use Rattle.recorder.specs.Script.{portion, track_in, is_poll, is_erasing, is_polled, stepwise, closes_tracks}
 use Rattle.recorder.specs.Places.{piece_of, after_in}
 use Rattle.recorder.specs.Exchanges.{nothing_seen, see}
-use Rattle.recorder.specs.Rules.{last_frame, Judgement, again, onward, refused, judge}
+use Rattle.recorder.specs.Rules.{last_frame, Judgement, again, onward, refused, why, judge}
 
 -- ---- what a reply leads to
 
@@ -57,19 +54,22 @@ pub data Turn : Type 0 where
   finish : Turn
   halt : Why → Turn
 
--- what each case of a move says
-abbrev pub turn_in : Move → Turn
-turn_in (M.Onward s) = goes s
-turn_in M.Finish = finish
-turn_in (M.Halt r) = halt (because (number_of r))
-turn_in (M.Fail x) = halt (drive_failed x)
+-- what a place to go to says, or that there is none
+abbrev pub went : Option Progress → Turn
+went (Some s) = goes s
+went None = finish
 
-abbrev pub advanced : Following → Seen → Turn
-advanced (Then x) v = goes (record { place = x; poll = Off; seen = v })
-advanced Nothing v = finish
+-- and a stop in its place
+abbrev pub turn_in : Result (Option Progress) Stop → Turn
+turn_in (Ok s) = went s
+turn_in (Err e) = halt (why e)
+
+abbrev pub advanced : Option Op → Seen → Turn
+advanced (Some x) v = goes (record { place = x; poll = Off; seen = v })
+advanced None v = finish
 
 -- "00h and then 03h"; else the polling, or an operation that is not polled, has ended
-abbrev pub onward_by : Poll → Op → Following → Seen → Turn
+abbrev pub onward_by : Poll → Op → Option Op → Seen → Turn
 onward_by Off x f v = advanced f v
 onward_by Ready x f v = goes (record { place = x; poll = Sense; seen = v })
 onward_by Sense x f v = advanced f v
@@ -79,7 +79,7 @@ abbrev pub aside : Bool → Op → Seen → Progress
 aside true x v = record { place = x; poll = Ready; seen = v }
 aside false x v = record { place = Blank; poll = Off; seen = v }
 
-abbrev pub onward_with : List Op → Poll → Op → Following → Seen → Turn
+abbrev pub onward_with : List Op → Poll → Op → Option Op → Seen → Turn
 onward_with [] p x f v = onward_by p x f v
 onward_with (y ∷ ys) p x f v = goes (aside (is_poll y) x v)
 
@@ -180,6 +180,13 @@ stands_at m q n l k at RequestSense = false
 unfoldable pub stands_in : Method → Recipe → ℕ → ℕ → ℕ → FrameCount → Op → Bool
 stands_in m q n l k at x = leb 1 n && (leb n most_tracks && stands_at m q n l k at x)
 
+-- the same in an order
+abbrev pub waits_at : Order → FrameCount → Op → Bool
+waits_at o at x = stands_at o.method o.recipe o.count (piece_of o (track_in x)) (piece_of o (suc (track_in x))) at x
+
+abbrev pub waits_in : Order → FrameCount → Op → Bool
+waits_in o at x = stands_in o.method o.recipe o.count (piece_of o (track_in x)) (piece_of o (suc (track_in x))) at x
+
 -- a poll is of an operation that is polled
 abbrev pub stands_polled : Bool → Op → Poll → Bool
 stands_polled immed x Off = true
@@ -237,9 +244,7 @@ give_of r good d =
     (unchanged r 3))
 
 -- what the inner step asks for: a state that passes the test, and a reading of a reply to its command
-pub record Prepared (o : Order) (s : Progress) (length next : ℕ) (r : Reading) : Type 0 where
-  pub length_is : length ≡ piece_of o (track_in s.place)
-  pub next_is : next ≡ piece_of o (suc (track_in s.place))
+pub record Prepared (o : Order) (s : Progress) (r : Reading) : Type 0 where
   pub passes : stands o s ≡ true
   pub unsigned : UnsignedIn r
   pub for_track : ForTrack (track_in (due_in s)) r

@@ -1,6 +1,6 @@
 -- The places of the plain job: which operation comes after another. The rules don't speak of them: they have the script. A poll has no
 -- place of its own: the job stays at the operation that is polled. A1h has one, from which the job goes back to 51h.
-use Rattle.std.specs.Prelude.{ℕ, zero, suc, ◌+◌, get_or, ltb}
+use Rattle.std.specs.Prelude.{ℕ, zero, suc, ◌+◌, get_or, ltb, Option, Some, None}
 use Rattle.basics.specs.Bytes.{if}
 use Rattle.mmc.specs.Order.{no_track}
 use Rattle.mmc.specs.Times.{lead_frames}
@@ -11,8 +11,6 @@ use Rattle.mmc.specs.declared.order.Recipe.{Recipe}
 use Rattle.mmc.specs.declared.order.Recipe.TheVariants.{Old, New}
 use Rattle.recorder.specs.declared.script.Op.{Op}
 use Rattle.recorder.specs.declared.script.Op.TheVariants.{GetConfiguration, ReadDiscInformation, ReadTrackInformation, ModeSelect, SendCueSheet, Write, SynchronizeCache, CloseTrack, CloseSession, Blank, TestUnitReady, RequestSense}
-use Rattle.recorder.specs.declared.places.Following.{Following}
-use Rattle.recorder.specs.declared.places.Following.TheVariants.{Next as Then, Nothing}
 use Rattle.recorder.specs.Script.{write, portion, track_in, of_write}
 
 -- ---- which operation comes after another, of n tracks; the piece at hand, the pause or a track, has l blocks, the next one k
@@ -40,24 +38,24 @@ unfoldable pub after_track : ℕ → ℕ → Op
 after_track n t = if (ltb t n) (ReadTrackInformation (record { 0 = suc t })) CloseSession
 
 -- after 35h: 5Bh function 1; by the new recipe the track is closed; in SAO it was the last
-abbrev pub after_synchronize : Method → Recipe → ℕ → ℕ → Following
-after_synchronize Tao Old n t = Then (CloseTrack (record { 0 = t }))
-after_synchronize Tao New n t = Then (after_track n t)
-after_synchronize Sao q n t = Nothing
+abbrev pub after_synchronize : Method → Recipe → ℕ → ℕ → Option Op
+after_synchronize Tao Old n t = Some (CloseTrack (record { 0 = t }))
+after_synchronize Tao New n t = Some (after_track n t)
+after_synchronize Sao q n t = None
 
-abbrev pub op_after : Method → Recipe → ℕ → ℕ → ℕ → Op → Following
-op_after m q n l k GetConfiguration = Then ReadDiscInformation
-op_after m q n l k ReadDiscInformation = Then (ReadTrackInformation (record { 0 = 1 }))
-op_after m q n l k (ReadTrackInformation t) = Then (ModeSelect t)
-op_after m q n l k (ModeSelect t) = Then (after_page m (before_block m n l k t.0 0))
-op_after m q n l k SendCueSheet = Then (before_block m n l k 0 0)
-op_after m q n l k (Write t f c) = Then (before_block m n l k t.0 (f.0 + c.0))
+abbrev pub op_after : Method → Recipe → ℕ → ℕ → ℕ → Op → Option Op
+op_after m q n l k GetConfiguration = Some ReadDiscInformation
+op_after m q n l k ReadDiscInformation = Some (ReadTrackInformation (record { 0 = 1 }))
+op_after m q n l k (ReadTrackInformation t) = Some (ModeSelect t)
+op_after m q n l k (ModeSelect t) = Some (after_page m (before_block m n l k t.0 0))
+op_after m q n l k SendCueSheet = Some (before_block m n l k 0 0)
+op_after m q n l k (Write t f c) = Some (before_block m n l k t.0 (f.0 + c.0))
 op_after m q n l k (SynchronizeCache t) = after_synchronize m q n t.0
-op_after m q n l k (CloseTrack t) = Then (after_track n t.0)
-op_after m q n l k CloseSession = Nothing
-op_after m q n l k Blank = Then ReadDiscInformation
-op_after m q n l k TestUnitReady = Nothing
-op_after m q n l k RequestSense = Nothing
+op_after m q n l k (CloseTrack t) = Some (after_track n t.0)
+op_after m q n l k CloseSession = None
+op_after m q n l k Blank = Some ReadDiscInformation
+op_after m q n l k TestUnitReady = None
+op_after m q n l k RequestSense = None
 
 -- the blocks of a piece of the job: of the pause, or of the track t
 abbrev pub piece_of : Order → ℕ → ℕ
@@ -65,5 +63,8 @@ piece_of o zero = lead_frames
 piece_of o (suc t) = (get_or o.tracks t no_track).length.0
 
 -- in an order
-abbrev pub after_in : Order → Op → Following
+abbrev pub after_in : Order → Op → Option Op
 after_in o x = op_after o.method o.recipe o.count (piece_of o (track_in x)) (piece_of o (suc (track_in x))) x
+
+abbrev pub before_in : Order → ℕ → ℕ → Op
+before_in o t f = before_block o.method o.count (piece_of o t) (piece_of o (suc t)) t f

@@ -1,10 +1,11 @@
 -- The recording rules, over the order and the exchanges alone: what is left of the plan, moved by the judgement of each reply.
-use Rattle.std.specs.Prelude.{◌≡◌, Bool, false, not, ◌&&◌, ◌||◌, List, [], ◌∷◌, ◌++◌, ℕ, ◌+◌, ◌-◌, ◌*◌, length, drop, ltb, leb, eqb}
+use Rattle.std.specs.Prelude.{◌≡◌, Bool, false, not, ◌&&◌, ◌||◌, List, [], ◌∷◌, ◌++◌, ℕ, ◌+◌, ◌-◌, ◌*◌, Result, Ok, Err, length, drop, ltb, leb, eqb}
 use Rattle.basics.specs.Bytes.{if}
 use Rattle.mmc.specs.Refusals.{Outcome, pass, refuse, number_of, Test, test}
 use Rattle.mmc.specs.Order.{tracks_in, all_kind, blocks_of, mixed_or_kept, short_track}
 use Rattle.mmc.specs.Times.{last_address, lead_frames, frames_to, address_at}
 use Rattle.mmc.specs.ReplyBlock.{Reply}
+use Rattle.mmc.specs.declared.refusals.Refusal.{Refusal}
 use Rattle.mmc.specs.declared.units.FrameCount.{FrameCount}
 use Rattle.mmc.specs.declared.order.Order.{Order}
 use Rattle.mmc.specs.declared.order.Track.{Track}
@@ -20,6 +21,8 @@ use Rattle.recorder.specs.declared.replies.Reading.TheVariants.{Busy, NotReady, 
 use Rattle.recorder.specs.declared.exchanges.Seen.{Seen}
 use Rattle.recorder.specs.declared.rules.Verdict.{Verdict}
 use Rattle.recorder.specs.declared.rules.Verdict.TheVariants as D
+use Rattle.recorder.specs.declared.rules.Stop.{Stop}
+use Rattle.recorder.specs.declared.rules.Stop.TheVariants as S
 use Rattle.recorder.specs.Replies.{of_disc, of_information}
 use Rattle.recorder.specs.Answers.{Why, because, drive_failed, Ruling, issue, done, stop}
 use Rattle.recorder.specs.Script.{track_in, polls, erasing, is_polled, stepwise, Block, script, ordered, closings}
@@ -38,14 +41,37 @@ abbrev pub tested : List Test → List Op → Judgement
 tested [] xs = onward xs
 tested (t ∷ ts) xs = if t.applies (refused (because t.number)) (tested ts xs)
 
+-- the rows of a table of tests, each with the number of its refusal
+abbrev pub tests_in : List (Bool × Refusal) → List Test
+tests_in [] = []
+tests_in (t ∷ ts) = test t.0 (number_of t.1) ∷ tests_in ts
+
+-- what the tests of a table come to, where these operations come next
+abbrev pub answered : List Op → Result Unit Refusal → Judgement
+answered xs (Ok u) = onward xs
+answered xs (Err r) = refused (because (number_of r))
+
 -- what each case of a verdict says
-abbrev pub judgement_in : Verdict → Judgement
-judgement_in D.Again = again
-judgement_in D.Onward = onward []
-judgement_in D.Poll = onward polls
-judgement_in D.Erase = onward erasing
-judgement_in (D.Refused r) = refused (because (number_of r))
-judgement_in (D.Failed s) = refused (drive_failed s)
+abbrev pub verdict_in : Verdict → Judgement
+verdict_in D.Again = again
+verdict_in D.Onward = onward []
+verdict_in D.Poll = onward polls
+verdict_in D.Erase = onward erasing
+
+-- and of a stop
+abbrev pub why : Stop → Why
+why (S.Refused r) = because (number_of r)
+why (S.Failed s) = drive_failed s
+
+-- a verdict, or a refusal in its place
+abbrev pub judgement_by : Result Verdict Refusal → Judgement
+judgement_by (Ok v) = verdict_in v
+judgement_by (Err r) = refused (because (number_of r))
+
+-- a verdict, or a stop in its place
+abbrev pub judgement_in : Result Verdict Stop → Judgement
+judgement_in (Ok v) = verdict_in v
+judgement_in (Err e) = refused (why e)
 
 -- ---- the numbers 5, 6, 7, 10 and 16, of what was read; 24 is of the order alone, as 8 and 9 are (mmc's `Order`)
 

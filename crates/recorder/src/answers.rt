@@ -10,7 +10,8 @@ use mmc::commands::{
     read_track_information, request_sense, send_cue_sheet, synchronize_cache, test_unit_ready,
     write,
 };
-use mmc::refusals::{Made, Refusal};
+use mmc::order::Order;
+use mmc::refusals::Refusal;
 use mmc::units::{BlockAddress, TrackNumber};
 
 // A command for the drive: an operation, and the address where the next block goes, at which a WRITE starts.
@@ -36,33 +37,28 @@ pub struct Cdb {
     pub length: usize,
 }
 
-// Makes the bytes of a command of a job of so many tracks, with Immed or without.
-fn make_command(immed: bool, tracks: u8, c: Command, out: &mut [u8]) -> Made
-    ensures { Fills (made_for immed tracks c) result out.old out.new }
+// Makes the bytes of a command of a job.
+fn make_command(o: &Order, c: Command, out: &mut [u8]) -> Result<usize, Refusal>
+    ensures { Fills (made_for o.now.immed o.now.count c) result out.old out.new }
 {
-    let op = c.op;
-    let address = c.address;
-    match op {
+    match c.op {
         Op::GetConfiguration => get_configuration(out),
         Op::ReadDiscInformation => read_disc_information(out),
         Op::ReadTrackInformation(_) => read_track_information(out),
         Op::ModeSelect(_) => mode_select(out),
-        Op::SendCueSheet => send_cue_sheet(8 * (tracks as usize + 3), out),
-        Op::Write {
-            track: _,
-            first: _,
-            count,
-        } => write(address, count, out),
-        Op::SynchronizeCache(_) => synchronize_cache(immed, out),
-        Op::CloseTrack(_) => close_track_session(immed, 1, TrackNumber(0xFF), out),
-        Op::CloseSession => close_track_session(immed, 2, TrackNumber(0), out),
-        Op::Blank => blank(immed, out),
+        Op::SendCueSheet => send_cue_sheet(8 * (o.count as usize + 3), out),
+        Op::Write { count, .. } => write(c.address, count, out),
+        Op::SynchronizeCache(_) => synchronize_cache(o.immed, out),
+        Op::CloseTrack(_) => close_track_session(o.immed, 1, TrackNumber(0xFF), out),
+        Op::CloseSession => close_track_session(o.immed, 2, TrackNumber(0), out),
+        Op::Blank => blank(o.immed, out),
         Op::TestUnitReady => test_unit_ready(out),
         Op::RequestSense => request_sense(out),
     }
 }
 
 // No bytes.
+#[tactic(auto, unfolding(crate::specs::Answers::cdb_of))]
 pub(crate) fn no_cdb() -> Cdb
     ensures { result ≡ cdb_of [] }
 {
@@ -72,17 +68,13 @@ pub(crate) fn no_cdb() -> Cdb
     }
 }
 
-// The bytes of a command of a job of so many tracks, with Immed or without.
-pub(crate) fn cdb_of(immed: bool, tracks: u8, c: Command) -> Cdb
-    ensures { result ≡ cdb_of (value_or [] (made_for immed tracks c)) }
+// The bytes of a command of a job.
+pub(crate) fn cdb_of(o: &Order, c: Command) -> Cdb
+    ensures { result ≡ cdb_of (value_or [] (made_for o.now.immed o.now.count c)) }
 {
     let mut bytes = [0u8; 12];
-    let made = make_command(immed, tracks, c, &mut bytes);
-    match made {
-        Made::Bytes(n) => Cdb {
-            bytes: bytes,
-            length: n,
-        },
-        Made::Refused(_) => no_cdb(),
+    match make_command(o, c, &mut bytes) {
+        Ok(length) => Cdb { bytes, length },
+        Err(_) => no_cdb(),
     }
 }

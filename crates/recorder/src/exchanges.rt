@@ -1,9 +1,8 @@
 // What is seen in the replies to the commands given so far.
-ghost use Rattle.std.specs.Prelude.{◌≡◌, ◌||◌, ◌<◌, ◌^◌};
-ghost use Rattle.mmc.specs.Times.{frames_to, address_at};
+ghost use Rattle.std.specs.Prelude.{◌≡◌, ◌<◌, ◌^◌};
+ghost use Rattle.mmc.specs.Times.{frames_to};
 ghost use Rattle.recorder.specs.Replies.{Unsigned, UnsignedIn};
-ghost use Rattle.recorder.specs.Script.{is_erasing};
-ghost use Rattle.recorder.specs.Exchanges.{start_at, past, progress_past, unready_seen, see};
+ghost use Rattle.recorder.specs.Exchanges.{start_at, past, progress_past, see};
 
 use crate::replies::{Reading, TrackInformation};
 use crate::script::{Op, asks_ready, is_erasing, takes_immed};
@@ -26,18 +25,12 @@ pub struct Seen {
 }
 
 // The frames to a Next Writable Address.
+#[tactic(auto, using(crate::proofs::exchanges::Laws::frames), unfolding(mmc::specs::Times::frames_to))]
 pub(crate) fn frames_to(a: BlockAddress) -> u64
     requires { Unsigned a }
     ensures { (result ≡ (frames_to a).0) × (result < 2 ^ 33) }
 {
     (a.0 + LEAD_FRAMES) as u64
-}
-
-// The address where the next block goes.
-pub(crate) fn address_at(at: FrameCount) -> BlockAddress
-    ensures { result ≡ address_at at }
-{
-    BlockAddress(at.0 as i64 - LEAD_FRAMES)
 }
 
 // Where the next block goes once READ TRACK INFORMATION has passed.
@@ -46,9 +39,8 @@ fn start_at(m: Method, at: FrameCount, i: TrackInformation) -> FrameCount
     requires i_bound { (start_at m at i).0 < 2 ^ 32 }
     ensures { result ≡ start_at m at i }
 {
-    let address = i.address;
     match m {
-        Method::Tao => FrameCount(frames_to(address) as u32),
+        Method::Tao => FrameCount(frames_to(i.address) as u32),
         Method::Sao => at,
     }
 }
@@ -59,22 +51,8 @@ fn past_op(op: Op, at: FrameCount) -> FrameCount
     ensures { result ≡ past op at }
 {
     match op {
-        Op::GetConfiguration => at,
-        Op::ReadDiscInformation => at,
-        Op::ReadTrackInformation(_) => at,
-        Op::ModeSelect(_) => at,
-        Op::SendCueSheet => at,
-        Op::Write {
-            track: _,
-            first: _,
-            count,
-        } => FrameCount(at.0 + count.0),
-        Op::SynchronizeCache(_) => at,
-        Op::CloseTrack(_) => at,
-        Op::CloseSession => at,
-        Op::Blank => at,
-        Op::TestUnitReady => at,
-        Op::RequestSense => at,
+        Op::Write { count, .. } => FrameCount(at.0 + count.0),
+        _ => at,
     }
 }
 
@@ -85,79 +63,35 @@ fn progress_past(op: Op, progress: u16) -> u16
     if takes_immed(op) { 0 } else { progress }
 }
 
-// Whether the disc was erased, after an operation.
-fn erased_past(op: Op, erased: bool) -> bool
-    ensures { result ≡ (is_erasing op || erased) }
-{
-    is_erasing(op) || erased
-}
-
-// The same, but for the answer to TEST UNIT READY.
-fn unready(v: Seen) -> Seen
-    ensures { result ≡ unready_seen v }
-{
-    let at = v.at;
-    Seen {
-        profile: v.profile,
-        status: v.status,
-        at: at,
-        erased: v.erased,
-        ready: false,
-        progress: v.progress,
-    }
-}
-
 // What is seen after a reply to an operation.
 pub(crate) fn see_reply(m: Method, op: Op, v: Seen, reading: Reading) -> Seen
     requires v_bound { (see m op reading v).at.0 < 2 ^ 32 }
     requires unsigned_in { UnsignedIn reading }
     ensures { result ≡ see m op reading v }
 {
-    let at = v.at;
+    let unready = Seen { ready: false, ..v };
     match reading {
         Reading::Busy => v,
-        Reading::NotReady => unready(v),
-        Reading::Failed(_) => unready(v),
-        Reading::Malformed => unready(v),
-        Reading::Profile(p) => Seen {
-            profile: p,
-            status: v.status,
-            at: at,
-            erased: v.erased,
-            ready: false,
-            progress: v.progress,
-        },
+        Reading::NotReady | Reading::Failed(_) | Reading::Malformed => unready,
+        Reading::Profile(profile) => Seen { profile, ..unready },
         Reading::Disc(d) => Seen {
-            profile: v.profile,
             status: d.status,
-            at: at,
-            erased: v.erased,
-            ready: false,
-            progress: v.progress,
+            ..unready
         },
         Reading::Information(i) => Seen {
-            profile: v.profile,
-            status: v.status,
-            at: start_at(m, at, i),
-            erased: v.erased,
-            ready: false,
-            progress: v.progress,
+            at: start_at(m, v.at, i),
+            ..unready
         },
-        Reading::ProgressIndication(n) => Seen {
-            profile: v.profile,
-            status: v.status,
-            at: at,
-            erased: v.erased,
-            ready: false,
-            progress: n,
+        Reading::ProgressIndication(progress) => Seen {
+            progress,
+            ..unready
         },
         Reading::Unread => Seen {
-            profile: v.profile,
-            status: v.status,
-            at: past_op(op, at),
-            erased: erased_past(op, v.erased),
+            at: past_op(op, v.at),
+            erased: is_erasing(op) || v.erased,
             ready: asks_ready(op),
             progress: progress_past(op, v.progress),
+            ..v
         },
     }
 }

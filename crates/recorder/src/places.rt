@@ -1,39 +1,27 @@
 // The places of a job: which operation comes after another, and the pieces that are written.
-ghost use Rattle.std.specs.Prelude.{◌≡◌, ◌<◌, ◌^◌};
+ghost use Rattle.std.specs.Prelude.{◌≡◌, suc, ◌+◌};
 ghost use Rattle.recorder.specs.Script.{portion, write};
-ghost use Rattle.recorder.specs.Places.{piece_of, piece_ended, before_block, block_after, after_page, after_track, after_synchronize, op_after};
+ghost use Rattle.recorder.specs.Places.{piece_of, piece_ended, before_in, after_page, after_track, after_synchronize, after_in};
 
-use crate::script::{Op, portion_of, track_of};
-use mmc::order::{MOST_TRACKS, Method, Order, Recipe};
+use crate::script::{Op, portion_of};
+use mmc::order::{Method, Order, Recipe};
 use mmc::times::LEAD_FRAMES;
 use mmc::units::{BlockCount, TrackNumber};
-
-// What comes after an operation.
-#[derive(Clone, Copy)]
-pub(crate) enum Following {
-    Next(Op),
-    Nothing,
-}
 
 // The blocks of the pause before track 1 of a session at once, which starts at the first address.
 const PAUSE_BLOCKS: u32 = LEAD_FRAMES as u32;
 
-// The last track that an order can have.
-const LAST_TRACK: u32 = MOST_TRACKS as u32;
-
 // The blocks of a piece of the job: the pause, or a track; none past the last row.
-pub fn piece_length(o: Order, t: u32) -> u32
-    ensures { result ≡ piece_of o t }
+pub fn piece_length(o: &Order, t: u32) -> u32
+    ensures { result ≡ piece_of o.now t }
 {
     if t == 0 {
         return PAUSE_BLOCKS;
     }
-    if LAST_TRACK < t {
-        return 0;
+    match o.tracks.get(t as usize - 1) {
+        Some(track) => track.length.0,
+        None => 0,
     }
-    let i = t as usize - 1;
-    let track = o.tracks[i];
-    track.length.0
 }
 
 // The WRITE of a piece of so many blocks from one of them on.
@@ -47,73 +35,48 @@ fn write_from(track: u16, length: u32, first: u32) -> Op
     }
 }
 
-// What comes after a piece: its closing, or in a session at once the next of the tracks, of so many blocks.
-fn piece_ended(m: Method, tracks: u8, next: u32, track: u16) -> Op
-    ensures { result ≡ piece_ended m tracks next track }
+// What comes after a piece: its closing, or in a session at once the next of the tracks.
+#[tactic(auto, unfolding(crate::specs::Places::piece_ended))]
+fn piece_ended(o: &Order, track: u16) -> Op
+    ensures { result ≡ piece_ended o.now.method o.now.count (piece_of o.now (suc track)) track }
 {
-    match m {
-        Method::Tao => Op::SynchronizeCache(TrackNumber(track)),
-        Method::Sao => {
-            if track < tracks as u16 {
-                write_from(track + 1, next, 0)
-            } else {
-                Op::SynchronizeCache(TrackNumber(track))
-            }
+    match o.method {
+        Method::Sao if track < o.count as u16 => {
+            write_from(track + 1, piece_length(o, track as u32 + 1), 0)
         }
+        _ => Op::SynchronizeCache(TrackNumber(track)),
     }
 }
 
-// The WRITE from a block of a piece of so many blocks on, or what comes after the piece.
-fn before_block(m: Method, tracks: u8, length: u32, next: u32, track: u16, first: u32) -> Op
-    ensures { result ≡ before_block m tracks length next track first }
+// The WRITE from the block on that comes after so many from another one on, or what comes after the piece.
+#[tactic(auto, unfolding(crate::specs::Places::before_block))]
+fn before_block(o: &Order, track: u16, first: u32, count: u32) -> Op
+    ensures { result ≡ before_in o.now track (first + count) }
 {
-    if first < length {
-        write_from(track, length, first)
+    let length = piece_length(o, track as u32);
+    if count < length.saturating_sub(first) {
+        write_from(track, length, first + count)
     } else {
-        piece_ended(m, tracks, next, track)
-    }
-}
-
-// The block of its piece that is next after an operation: that after a WRITE, else the first.
-fn block_after(op: Op) -> u32
-    requires { block_after op < 2 ^ 32 }
-    ensures { result ≡ block_after op }
-{
-    match op {
-        Op::GetConfiguration => 0,
-        Op::ReadDiscInformation => 0,
-        Op::ReadTrackInformation(_) => 0,
-        Op::ModeSelect(_) => 0,
-        Op::SendCueSheet => 0,
-        Op::Write {
-            track: _,
-            first,
-            count,
-        } => first.0 + count.0,
-        Op::SynchronizeCache(_) => 0,
-        Op::CloseTrack(_) => 0,
-        Op::CloseSession => 0,
-        Op::Blank => 0,
-        Op::TestUnitReady => 0,
-        Op::RequestSense => 0,
+        piece_ended(o, track)
     }
 }
 
 // After MODE SELECT: the track's WRITEs, or the cue sheet.
-fn after_page(m: Method, writes: Op) -> Op
-    ensures { result ≡ after_page m writes }
+fn after_page(o: &Order, track: u16) -> Op
+    ensures { result ≡ after_page o.now.method (before_in o.now track 0) }
 {
-    match m {
-        Method::Tao => writes,
+    match o.method {
+        Method::Tao => before_block(o, track, 0, 0),
         Method::Sao => Op::SendCueSheet,
     }
 }
 
 // After a track is closed: the next of the tracks, or the closing of the session.
-fn after_track(tracks: u8, track: u16) -> Op
-    ensures { result ≡ after_track tracks track }
+#[tactic(auto, unfolding(crate::specs::Places::after_track))]
+fn after_track(o: &Order, track: u16) -> Op
+    ensures { result ≡ after_track o.now.count track }
 {
-    if track < tracks as u16 {
+    if track < o.count as u16 {
         Op::ReadTrackInformation(TrackNumber(track + 1))
     } else {
         Op::CloseSession
@@ -121,51 +84,33 @@ fn after_track(tracks: u8, track: u16) -> Op
 }
 
 // After SYNCHRONIZE CACHE: the track is closed, by the new recipe it is already, or a session at once is done.
-fn after_synchronize(m: Method, q: Recipe, tracks: u8, track: u16) -> Following
-    ensures { result ≡ after_synchronize m q tracks track }
+fn after_synchronize(o: &Order, track: u16) -> Option<Op>
+    ensures { result ≡ after_synchronize o.now.method o.now.recipe o.now.count track }
 {
-    match m {
-        Method::Tao => match q {
-            Recipe::Old => Following::Next(Op::CloseTrack(TrackNumber(track))),
-            Recipe::New => Following::Next(after_track(tracks, track)),
-        },
-        Method::Sao => Following::Nothing,
+    match (o.method, o.recipe) {
+        (Method::Tao, Recipe::Old) => Some(Op::CloseTrack(TrackNumber(track))),
+        (Method::Tao, Recipe::New) => Some(after_track(o, track)),
+        (Method::Sao, _) => None,
     }
 }
 
-// The operation after another, in an order of so many tracks; the piece at hand and the next one have so many blocks.
-pub(crate) fn op_after(
-    m: Method,
-    q: Recipe,
-    tracks: u8,
-    length: u32,
-    next: u32,
-    op: Op,
-) -> Following
-    requires { block_after op < 2 ^ 32 }
-    ensures { result ≡ op_after m q tracks length next op }
+// The operation after another in an order.
+pub(crate) fn op_after(o: &Order, op: Op) -> Option<Op>
+    ensures { result ≡ after_in o.now op }
 {
-    let track = track_of(op);
-    let writes = before_block(m, tracks, length, next, track, block_after(op));
-    let page = after_page(m, writes);
-    let synchronized = after_synchronize(m, q, tracks, track);
-    let closed = after_track(tracks, track);
     match op {
-        Op::GetConfiguration => Following::Next(Op::ReadDiscInformation),
-        Op::ReadDiscInformation => Following::Next(Op::ReadTrackInformation(TrackNumber(1))),
-        Op::ReadTrackInformation(t) => Following::Next(Op::ModeSelect(t)),
-        Op::ModeSelect(_) => Following::Next(page),
-        Op::SendCueSheet => Following::Next(writes),
+        Op::GetConfiguration | Op::Blank => Some(Op::ReadDiscInformation),
+        Op::ReadDiscInformation => Some(Op::ReadTrackInformation(TrackNumber(1))),
+        Op::ReadTrackInformation(track) => Some(Op::ModeSelect(track)),
+        Op::ModeSelect(track) => Some(after_page(o, track.0)),
+        Op::SendCueSheet => Some(before_block(o, 0, 0, 0)),
         Op::Write {
-            track: _,
-            first: _,
-            count: _,
-        } => Following::Next(writes),
-        Op::SynchronizeCache(_) => synchronized,
-        Op::CloseTrack(_) => Following::Next(closed),
-        Op::CloseSession => Following::Nothing,
-        Op::Blank => Following::Next(Op::ReadDiscInformation),
-        Op::TestUnitReady => Following::Nothing,
-        Op::RequestSense => Following::Nothing,
+            track,
+            first,
+            count,
+        } => Some(before_block(o, track.0, first.0, count.0)),
+        Op::SynchronizeCache(track) => after_synchronize(o, track.0),
+        Op::CloseTrack(track) => Some(after_track(o, track.0)),
+        Op::CloseSession | Op::TestUnitReady | Op::RequestSense => None,
     }
 }

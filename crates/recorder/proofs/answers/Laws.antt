@@ -7,13 +7,13 @@ use lib.ListN.{length, drop}
 use lib.Dec.{leb}
 use native.Mathlib.Omega.{arith}
 use Rattle.basics.specs.Bytes.{if, bytes32}
-use Rattle.mmc.specs.Refusals.{Outcome, pass, refuse, value_or, answer_of, buffer_of, made_of, Fills}
+use Rattle.mmc.specs.Refusals.{Outcome, pass, refuse, value_or, answer_of, buffer_of, outcome_of, Fills}
 use Rattle.mmc.specs.Commands.{send_cue_sheet, write_range, write_bytes, write_command, close_track_session}
 use Rattle.mmc.specs.Sheet.{sheet_bytes, sheet_size}
 use Rattle.mmc.specs.declared.units.BlockAddress.{BlockAddress}
 use Rattle.mmc.specs.declared.refusals.Refusal.{Refusal}
-use Rattle.mmc.specs.declared.refusals.Made.{Made}
-use Rattle.mmc.specs.declared.refusals.Made.TheVariants as M
+use Rattle.std.specs.declared.result.Result.{Result}
+use Rattle.std.specs.declared.result.Result.TheVariants.{Ok, Err}
 use Rattle.basics.proofs.Lists.{zeros}
 use Rattle.recorder.specs.declared.script.Op.{Op}
 use Rattle.recorder.specs.declared.script.Op.TheVariants.{GetConfiguration, ReadDiscInformation, ReadTrackInformation, ModeSelect, SendCueSheet, Write, SynchronizeCache, CloseTrack, CloseSession, Blank, TestUnitReady, RequestSense}
@@ -52,15 +52,15 @@ drop_zeros (suc k) zero = let e : 0 - suc k ≡ 0 = omega arith in rw e
 drop_zeros (suc k) (suc n) = let e : suc n - suc k ≡ n - k = omega arith in rw e (drop_zeros k n)
 
 module _ {after : List ℕ} where
-  pub filled : (q : Outcome (List ℕ)) {m : Made} (n : ℕ) → Short q → m ≡ M.Bytes n → Fills q m (zeros 12) after → record { bytes = after; length = n } ≡ cdb_of (value_or [] q)
+  pub filled : (q : Outcome (List ℕ)) {m : Result ℕ Refusal} (n : ℕ) → Short q → m ≡ Ok n → Fills q m (zeros 12) after → record { bytes = after; length = n } ≡ cdb_of (value_or [] q)
   unfolding answer_of buffer_of cdb_of
   filled (pass b) n t e f =
-      let a : n ≡ length b = cc (ap made_of e, rw t at f.answer) in
+      let a : n ≡ length b = cc (ap outcome_of e, rw t at f.answer) in
       let w : after ≡ b ++ drop (length b) (zeros 12) = rw t at f.buffer in
       rw (a, w, drop_zeros (length b) 12)
-  filled (refuse k) n t e f = cc (ap made_of e)
+  filled (refuse k) n t e f = cc (ap outcome_of e)
 
-  pub unfilled : (q : Outcome (List ℕ)) {m : Made} (r : Refusal) → Short q → m ≡ M.Refused r → Fills q m (zeros 12) after → cdb_of [] ≡ cdb_of (value_or [] q)
+  pub unfilled : (q : Outcome (List ℕ)) {m : Result ℕ Refusal} (r : Refusal) → Short q → m ≡ Err r → Fills q m (zeros 12) after → cdb_of [] ≡ cdb_of (value_or [] q)
   unfolding answer_of buffer_of
-  unfilled (pass b) r t e f = cc (ap made_of e, rw t at f.answer)
+  unfilled (pass b) r t e f = cc (ap outcome_of e, rw t at f.answer)
   unfilled (refuse k) r t e f = refl

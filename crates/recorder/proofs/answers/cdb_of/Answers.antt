@@ -2,12 +2,12 @@ use mathlib.Core.Path.{◌∙◌}
 use Rattle.recorder.proofs.answers.Laws.{short, filled, unfilled}
 use Rattle.recorder.proofs.answers.cdb_of.Goals as goal
 
-pub returns-in-Bytes : goal.returns-in-Bytes
-returns-in-Bytes c =
-    let a = c.args in
-    filled _ _ (short a.immed a.tracks a.c.address a.c.op) c.in-Bytes.is c.make_command-made.ensures
+pub returns-in-Ok : goal.returns-in-Ok
+returns-in-Ok c =
+    let o = c.args.o.now in
+    filled _ _ (short o.immed o.count c.args.c.address c.args.c.op) c.in-Ok.is c.make_command.ensures
 
-pub returns-in-Refused : goal.returns-in-Refused
-returns-in-Refused c =
-    let a = c.args in
-    c.no_cdb.ensures ∙ unfilled _ _ (short a.immed a.tracks a.c.address a.c.op) c.in-Refused.is c.make_command-made.ensures
+pub returns-in-Err : goal.returns-in-Err
+returns-in-Err c =
+    let o = c.args.o.now in
+    c.no_cdb.ensures ∙ unfilled _ _ (short o.immed o.count c.args.c.address c.args.c.op) c.in-Err.is c.make_command.ensures

@@ -3,4 +3,4 @@ use Rattle.recorder.proofs.job.Laws.{rests}
 use Rattle.recorder.proofs.job.idle.Goals as goal
 
 pub returns : goal.returns
-returns c = (rests _ (rw (c.no_order-order.ensures, c.opening_at-first.ensures)), starred_sheets, other_sheets, poll_sheets, erase_sheets, charge_sheets, audio_sheets, recipe_sheets)
+returns c = (rests _ (rw (c.opened.ensures, c.no_order.ensures)), starred_sheets, other_sheets, poll_sheets, erase_sheets, charge_sheets, audio_sheets, recipe_sheets)

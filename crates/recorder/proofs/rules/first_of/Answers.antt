@@ -1,26 +1,21 @@
+use Rattle.std.proofs.Common.{◌≡◌, ℕ, ◌+◌, ◌<◌, Bool, false, List, length, get_or, drop, add-one, drop-cons}
+use Rattle.basics.specs.Bytes.{if}
+use Rattle.mmc.specs.Refusals.{number_of}
+use Rattle.mmc.specs.declared.refusals.Refusal.{Refusal}
+use Rattle.mmc.specs.declared.refusals.Refusal.TheVariants.{BlockLength}
+use Rattle.recorder.specs.declared.script.Op.{Op}
+use Rattle.recorder.specs.Answers.{because}
+use Rattle.recorder.specs.Rules.{refused, tested, tests_in}
 use Rattle.recorder.proofs.rules.first_of.Goals as goal
 
-pub returns-then-profile : goal.returns-then-profile
-returns-then-profile c = simp c.if-profile.true
+-- of the tests from one on, this one is looked at first
+at_test : (ts : List (Bool × Refusal)) (i : ℕ) (z : Bool × Refusal) (xs : List Op) → i < length ts → if (get_or ts i z).0 (refused (because (number_of (get_or ts i z).1))) (tested (tests_in (drop (i + 1) ts)) xs) ≡ tested (tests_in (drop i ts)) xs
+at_test ts i z xs h = rw (add-one, drop-cons ts i z)
 
-pub returns-then-status : goal.returns-then-status
-returns-then-status c = simp (c.if-profile.false, c.if-status.true)
+pub returns-then-applies : goal.returns-then-applies
+returns-then-applies c =
+    λ xs. rw (← c.loop-applies.invariant xs, ← at_test c.args.tests.now c.loop-applies.applies-index (false, BlockLength) xs c.loop-applies-test.true, c.if-applies.true)
 
-pub returns-then-track : goal.returns-then-track
-returns-then-track c = simp (c.if-profile.false, c.if-status.false, c.if-track.true)
-
-pub returns-then-audio : goal.returns-then-audio
-returns-then-audio c =
-    simp (c.if-profile.false, c.if-status.false, c.if-track.false, c.if-audio.true)
-
-pub returns-then-order : goal.returns-then-order
-returns-then-order c =
-    simp (c.if-profile.false, c.if-status.false, c.if-track.false, c.if-audio.false, c.if-order.true)
-
-pub returns-then-short : goal.returns-then-short
-returns-then-short c =
-    simp (c.if-profile.false, c.if-status.false, c.if-track.false, c.if-audio.false, c.if-order.false, c.if-short.true)
-
-pub returns-then-full : goal.returns-then-full
-returns-then-full c =
-    simp (c.if-profile.false, c.if-status.false, c.if-track.false, c.if-audio.false, c.if-order.false, c.if-short.false, c.if-full.true)
+pub loop-applies-preserved : goal.loop-applies-preserved
+loop-applies-preserved c =
+    λ xs. rw (← c.loop-applies.invariant xs, ← at_test c.args.tests.now c.loop-applies.applies-index (false, BlockLength) xs c.loop-applies-test.true, c.if-applies.false)

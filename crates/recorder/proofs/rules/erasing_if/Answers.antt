@@ -1,7 +1,0 @@
-use Rattle.recorder.proofs.rules.erasing_if.Goals as goal
-
-pub returns-then-due : goal.returns-then-due
-returns-then-due c = simp c.if-due.true
-
-pub returns-else-due : goal.returns-else-due
-returns-else-due c = simp c.if-due.false
