@@ -8,5 +8,3 @@ pub mod Reading
 pub mod Laws
 pub mod Making
 pub mod Runs
-pub mod Bearing
-pub mod Comparing

@@ -1,13 +1,12 @@
 -- CD-TEXT packs: made from a run of titles, and read back to it.
-use Rattle.std.specs.Prelude.{◌≡◌, ℕ, zero, suc, ◌+◌, ◌-◌, ◌*◌, ◌/◌, ◌%◌, ◌≤◌, min, List, [], ◌∷◌, ◌++◌, Bool, true, false, ◌&&◌, length, take, drop, replicate, eqb, leb}
+use Rattle.std.specs.Prelude.{◌≡◌, ℕ, zero, suc, ◌+◌, ◌-◌, ◌*◌, ◌/◌, ◌%◌, ◌≤◌, min, List, [], ◌∷◌, ◌++◌, Bool, true, false, ◌&&◌, length, take, drop, replicate, eqb, leb, Result, Option, MatchOption, slice_index, ◌≢◌, ◌<◌}
 use Rattle.basics.specs.Bytes.{if, bytes16, all_zero, same_bytes}
 use Rattle.mmc.specs.Refusals.{Outcome, pass, refuse, answer_of, buffer_of}
 use Rattle.cdtext.specs.Check.{check_of}
 use Rattle.cdtext.specs.Titles.{most_titles, allowed, title_count, all_titles, run_of}
-use Rattle.cdtext.specs.Refusals.{made_of, read_of}
+use Rattle.cdtext.specs.Refusals.{outcome_of}
 use Rattle.cdtext.specs.declared.packs.Place.{Place}
-use Rattle.cdtext.specs.declared.refusals.Made.{Made}
-use Rattle.cdtext.specs.declared.refusals.Read.{Read}
+use Rattle.cdtext.specs.declared.refusals.Refusal.{Refusal}
 
 -- ---- a pack
 
@@ -104,6 +103,12 @@ unfoldable pub text_in : ℕ → List ℕ → List ℕ
 text_in zero b = []
 text_in (suc k) b = text_in k b ++ take 12 (drop (18 * k + 4) b)
 
+-- the index of a text's last byte that is not zero
+abbrev pub IsLast : List ℕ → Option ℕ → Type 0
+IsLast text r =
+    MatchOption r ((k : ℕ) → k < length text → slice_index text k ≡ 0)
+    (λ i. (i < length text) × (slice_index text i ≢ 0) × ((k : ℕ) → i < k → k < length text → slice_index text k ≡ 0))
+
 -- a text without the zeros at its end
 unfoldable pub trimmed : List ℕ → List ℕ
 trimmed [] = []
@@ -138,21 +143,10 @@ pub record Fits (run : List ℕ) (room : ℕ) : Type 0 where
   pub some : 1 ≤ length run
   pub holds : 18 * (packs_for run + 3) ≤ room
 
--- what the inner readers need: bytes for the packs of the titles that their own text gives
-pub record Bears (run : List ℕ) (n : ℕ) (b : List ℕ) : Type 0 where
-  pub text : run ≡ run_in b
-  pub packs : n ≡ packs_for run
-  pub few : title_count run ≤ most_titles
-  pub short : n + 3 ≤ most_packs
-  pub long : length b ≡ 18 * (n + 3)
-
--- what makers and readers promise of the lent buffer: of what has to go there, the answer, and the buffer before and after
-pub record FillsPacks (bytes : Outcome (List ℕ)) (r : Made) (before after : List ℕ) : Type 0 where
-  pub answer : made_of r ≡ answer_of bytes before
-  pub buffer : after ≡ buffer_of bytes before
-
-pub record FillsTitles (bytes : Outcome (List ℕ)) (r : Read) (before after : List ℕ) : Type 0 where
-  pub answer : read_of r ≡ answer_of bytes before
+-- what makers and readers promise of the lent buffer: of what has to go there, the answer, which counts things of so many bytes, and
+-- the buffer before and after
+pub record Fills (size : ℕ) (bytes : Outcome (List ℕ)) (r : Result ℕ Refusal) (before after : List ℕ) : Type 0 where
+  pub answer : outcome_of size r ≡ answer_of bytes before
   pub buffer : after ≡ buffer_of bytes before
 
 -- a run is that of 1 to 99 titles, all of them allowed
@@ -165,8 +159,8 @@ pub record IsRun (run : List ℕ) (titles : List (List ℕ)) : Type 0 where
 -- what the maker promises: 17, 19, 11 or the packs; that 17 is for just the runs that are none of allowed titles, n of them being
 -- counted as n; that a pack whose text begins behind m characters of a title bears that title's track and m; that packs are at most
 -- 255, bear the text without gaps and read back
-pub record MakesPacks (run : List ℕ) (r : Made) (before after : List ℕ) : Type 0 where
-  pub filled : FillsPacks (packs run) r before after
+pub record MakesPacks (run : List ℕ) (r : Result ℕ Refusal) (before after : List ℕ) : Type 0 where
+  pub filled : Fills 18 (packs run) r before after
   pub titles : allowed run ≡ true → (ts : List (List ℕ)) × IsRun run ts
   pub allows : (ts : List (List ℕ)) → IsRun run ts → (allowed run ≡ true) × (title_count run ≡ length ts)
   pub placed : (earlier later : List (List ℕ)) (t : List ℕ) (k m : ℕ) → IsRun run (earlier ++ t ∷ later) → 12 * k ≡ length (run_of earlier) + m → m ≤ length t → place_at run k ≡ record { track = length earlier + 1; count = m }
@@ -176,7 +170,7 @@ pub record MakesPacks (run : List ℕ) (r : Made) (before after : List ℕ) : Ty
 
 -- what the reader promises: 18, 11 or the run; that the bytes are the packs of the run read; and that a run whose packs they are is
 -- read, so that 18 is for packs that no titles give
-pub record ReadsPacks (b : List ℕ) (r : Read) (before after : List ℕ) : Type 0 where
-  pub filled : FillsTitles (read_packs b) r before after
+pub record ReadsPacks (b : List ℕ) (r : Result ℕ Refusal) (before after : List ℕ) : Type 0 where
+  pub filled : Fills 1 (read_packs b) r before after
   pub made : (run : List ℕ) → read_packs b ≡ pass run → packs run ≡ pass b
   pub no_other : (run : List ℕ) → packs run ≡ pass b → read_packs b ≡ pass run

@@ -3,7 +3,7 @@ ghost use Rattle.std.specs.Prelude.{◌≡◌};
 ghost use Rattle.cdtext.specs.Check.{AreRemainders, check_of};
 
 // What is left of each byte, at the top of 16 bits, after eight bits of the division by the polynomial 1021h.
-const REMAINDERS: [u16; 256] = [
+static REMAINDERS: [u16; 256] = [
     0x0000, 0x1021, 0x2042, 0x3063, 0x4084, 0x50A5, 0x60C6, 0x70E7, 0x8108, 0x9129, 0xA14A, 0xB16B,
     0xC18C, 0xD1AD, 0xE1CE, 0xF1EF, 0x1231, 0x0210, 0x3273, 0x2252, 0x52B5, 0x4294, 0x72F7, 0x62D6,
     0x9339, 0x8318, 0xB37B, 0xA35A, 0xD3BD, 0xC39C, 0xF3FF, 0xE3DE, 0x2462, 0x3443, 0x0420, 0x1401,
@@ -28,26 +28,11 @@ const REMAINDERS: [u16; 256] = [
     0x2E93, 0x3EB2, 0x0ED1, 0x1EF0,
 ];
 
-// The table, with its rule at each entry. It is copied at each use: who makes or compares many packs takes it once, and lends it.
-pub(crate) fn remainders() -> [u16; 256]
-    ensures { AreRemainders result }
+// The table, with its rule at each entry.
+fn remainders() -> &'static [u16; 256]
+    ensures { AreRemainders result.now }
 {
-    REMAINDERS
-}
-
-// The check bytes over b by the table, high byte first, as a number.
-pub(crate) fn check_by(table: &[u16], b: &[u8]) -> u16
-    requires { AreRemainders table.now }
-    ensures { result ≡ check_of b.now }
-{
-    let mut r: u16 = 0;
-    let mut i: usize = 0;
-    while i < b.len() {
-        let top = (r >> 8) ^ b[i] as u16;
-        r = (r << 8) ^ table[top as usize];
-        i = i + 1;
-    }
-    !r
+    &REMAINDERS
 }
 
 // The check bytes over b, high byte first, as a number.
@@ -55,5 +40,10 @@ pub fn check_of(b: &[u8]) -> u16
     ensures { result ≡ check_of b.now }
 {
     let table = remainders();
-    check_by(&table, b)
+    let mut r: u16 = 0;
+    for x in b {
+        let top = (r >> 8) as u8 ^ *x;
+        r = (r << 8) ^ table[top as usize];
+    }
+    !r
 }

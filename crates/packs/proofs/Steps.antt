@@ -2,17 +2,23 @@
 use mathlib.Core.Path.{◌≡◌, refl, ap, ◌∙◌}
 use mathlib.Core.Bool.{Bool, true, false}
 use mathlib.Core.List.{List, [], ◌∷◌, ◌++◌, append-nil}
-use Prim.Native.Nat.{ℕ, suc, ◌-◌, ◌*◌, ◌/◌, ◌%◌, ◌≤◌, ◌<◌}
+use Prim.Native.Nat.{ℕ, suc, ◌-◌, ◌*◌, ◌≤◌}
 use native.Mathlib.Omega.{arith}
-use lib.ListN.{length, take, drop, set, replicate, length-append, drop_of_length-le}
-use lib.Seq.{length-take-le, take_all}
+use lib.ListN.{length, take, drop, replicate, drop_of_length-le}
+use lib.Seq.{take_all}
 use lib.Dec.{eqb, leb}
 use borrow.Author.Tests.{leb-true}
+use Rattle.std.specs.Prelude.{Result, Ok, Err}
 use Rattle.basics.specs.Bytes.{if, bytes16}
-use Rattle.mmc.specs.Refusals.{Outcome, pass, refuse, value_or, answer_of, buffer_of}
+use Rattle.mmc.specs.Refusals.{Outcome, pass, refuse, value_or, answer_of}
 use Rattle.cdtext.specs.Check.{check_of}
-use Rattle.packs.specs.Answers.{work, head_of, answer_to, bytes_of}
-use Rattle.packs.specs.declared.Head.{Head}
+use Rattle.cdtext.specs.Packs.{packs, read_packs, Fills}
+use Rattle.cdtext.specs.declared.refusals.Refusal.{Refusal}
+use Rattle.packs.specs.declared.Operation.{Operation}
+use Rattle.packs.specs.declared.Operation.TheVariants.{Make, Read, Check}
+use Rattle.packs.specs.Answers.{work, amount_of, head_of, answer_to, bytes_of}
+use Rattle.packs.specs.Requests.{number_of, most_room}
+use borrow.Rule.Slice.PartMut.{put_mid}
 
 amount_at : (t : Bool) (b d : List ℕ) → leb (length b) (length d) ≡ t → value_or 0 (if t (pass (length b)) (refuse 11)) ≤ length d
 amount_at true b d e = leb-true (length b) (length d) e
@@ -24,56 +30,35 @@ unfolding answer_of
 amount_fits (pass b) d = amount_at (leb (length b) (length d)) b d refl
 amount_fits (refuse r) d = omega arith
 
-pub two_bytes : (n : ℕ) (o : Outcome (List ℕ)) (d : List ℕ) → pass n ≡ answer_of o d → length d ≤ 8192 → n ≤ 8192
-two_bytes n o d e h =
-    let q : n ≡ value_or 0 (answer_of o d) = ap (value_or 0) e in
+pub few : (size n : ℕ) (o : Outcome (List ℕ)) (d after : List ℕ) → Fills size o (Ok n) d after → length d ≤ most_room → size * n ≤ most_room
+few size n o d after f h =
+    let q : size * n ≡ value_or 0 (answer_of o d) = ap (value_or 0) f.answer in
     omega (arith, amount_fits o d)
 
--- so many packs are what 18 times as many bytes are told as
-pub packs_head : (n : ℕ) → 0 ∷ bytes16 n ≡ head_of 1 (pass (18 * n))
-unfolding head_of
-packs_head n =
-    let q : n ≡ 18 * n / 18 = omega arith in
-    ap (λ (z : ℕ). 0 ∷ bytes16 z) q
+-- the answer to operation 1 or 2, which tells of things of so many bytes
+filled : (op size : ℕ) (payload d after : List ℕ) (x : Result ℕ Refusal) → eqb op 3 ≡ false → ((n : ℕ) → amount_of op (size * n) ≡ n) → Fills size (work op payload) x d after → bytes_of x ++ after ≡ answer_to op payload d
+unfolding answer_to head_of
+filled op size payload d after (Ok n) e a f = rw (e, ← f.answer, a n, f.buffer)
+filled op size payload d after (Err r) e a f = rw (e, ← f.answer, f.buffer)
 
-pub titles_head : (n : ℕ) → 0 ∷ bytes16 n ≡ head_of 2 (pass n)
-unfolding head_of
-titles_head n = refl
+pub made : (o : Operation) (payload d after : List ℕ) (x : Result ℕ Refusal) → o ≡ Make → Fills 18 (packs payload) x d after → bytes_of x ++ after ≡ answer_to (number_of o) payload d
+made o payload d after x e f = rw e (filled 1 18 payload d after x refl (λ n. omega arith) f)
 
-pub refusal_head : (op n : ℕ) → n ∷ 0 ∷ 0 ∷ [] ≡ head_of op (refuse n)
-unfolding head_of
-refusal_head op n = refl
+pub read : (o : Operation) (payload d after : List ℕ) (x : Result ℕ Refusal) → o ≡ Read → Fills 1 (read_packs payload) x d after → bytes_of x ++ after ≡ answer_to (number_of o) payload d
+read o payload d after x e f = rw e (filled 2 1 payload d after x refl (λ n. omega arith) f)
 
--- the answer to operation 1 or 2, of its head and its buffer
-pub filled_answer : (op : ℕ) (payload h d after : List ℕ) (a : Outcome ℕ) → eqb op 3 ≡ false → h ≡ head_of op a → a ≡ answer_of (work op payload) d → after ≡ buffer_of (work op payload) d → h ++ after ≡ answer_to op payload d
+pub checked : (o : Operation) (k : ℕ) (payload d : List ℕ) → o ≡ Check → k ≡ check_of payload → 0 ∷ bytes16 k ++ d ≡ answer_to (number_of o) payload d
 unfolding answer_to
-filled_answer op payload h d after a e eh ea eb = rw (eh, ea, eb, e)
+checked o k payload d e h = rw (e, h)
 
--- the answer to operation 3
-pub check_answer : (op k : ℕ) (payload h d : List ℕ) → op ≡ 3 → h ≡ 0 ∷ bytes16 k → k ≡ check_of payload → h ++ d ≡ answer_to op payload d
-unfolding answer_to
-check_answer op k payload h d e eh ek = rw (e, eh, ek)
-
--- the operation that is neither 1 nor 2
-pub third : (op : ℕ) → 1 ≤ op → op ≤ 3 → (op ≡ 1 → ⊥) → (op ≡ 2 → ⊥) → op ≡ 3
-third op l h n1 n2 = omega arith
-
--- a buffer whose bytes from the fourth on were lent, k of them, and came back as ys
-abbrev pub back : List ℕ → List ℕ → ℕ → List ℕ
-back xs ys k = take 3 xs ++ (ys ++ drop k (drop 3 xs))
-
--- its first three bytes stay there
-pub three_there : (xs ys : List ℕ) (k i : ℕ) → 3 ≤ length xs → i < 3 → i < length (back xs ys k)
-three_there xs ys k i l h = omega (arith, length-append (take 3 xs) (ys ++ drop k (drop 3 xs)), length-take-le 3 xs l)
-
--- the head over them, where all the others were lent
-pub whole_answer : (xs ys payload : List ℕ) (k op : ℕ) (h : Head) → 3 ≤ length xs → k ≡ length xs - 3 → bytes_of h ++ ys ≡ answer_to op payload (take k (drop 3 xs)) → set (set (set (back xs ys k) 0 h.refusal) 1 (h.amount / 256)) 2 (h.amount % 256) ≡ answer_to op payload (drop 3 xs)
-whole_answer [] ys payload k op h l ek e = absurd (omega arith)
-whole_answer (a ∷ []) ys payload k op h l ek e = absurd (omega arith)
-whole_answer (a ∷ b ∷ []) ys payload k op h l ek e = absurd (omega arith)
-whole_answer (a ∷ b ∷ c ∷ t) ys payload k op h l ek e =
+-- the head over the first three bytes of a buffer, where all the others were lent
+pub whole_answer : (xs ys payload h : List ℕ) (k op : ℕ) → 3 ≤ length xs → k ≡ length xs - 3 → h ++ ys ≡ answer_to op payload (take k (drop 3 xs)) → h ++ drop 3 (put_mid 3 k xs ys) ≡ answer_to op payload (drop 3 xs)
+whole_answer [] ys payload h k op l ek e = absurd (omega arith)
+whole_answer (a ∷ []) ys payload h k op l ek e = absurd (omega arith)
+whole_answer (a ∷ b ∷ []) ys payload h k op l ek e = absurd (omega arith)
+whole_answer (a ∷ b ∷ c ∷ t) ys payload h k op l ek e =
     let n : length t ≤ k = omega arith in
-    ap (λ (z : List ℕ). bytes_of h ++ (ys ++ z)) (drop_of_length-le t n) ∙ ap (λ (z : List ℕ). bytes_of h ++ z) (append-nil ys) ∙ e ∙ ap (answer_to op payload) (take_all k t n)
+    ap (λ (z : List ℕ). h ++ (ys ++ z)) (drop_of_length-le t n) ∙ ap (λ (z : List ℕ). h ++ z) (append-nil ys) ∙ e ∙ ap (answer_to op payload) (take_all k t n)
 
 -- the lent buffer behind the head, where all was cleared
 pub cleared : (xs : List ℕ) (n x room : ℕ) → n ≡ suc (suc (suc room)) → xs ≡ replicate n x → drop 3 xs ≡ replicate room x

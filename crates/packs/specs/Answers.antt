@@ -1,10 +1,11 @@
 -- The packs program: the bytes that it answers a request with.
-use Rattle.std.specs.Prelude.{ℕ, ◌/◌, List, [], ◌∷◌, ◌++◌, eqb}
+use Rattle.std.specs.Prelude.{ℕ, ◌/◌, List, [], ◌∷◌, ◌++◌, Result, Ok, Err, eqb}
 use Rattle.basics.specs.Bytes.{if, bytes16}
 use Rattle.mmc.specs.Refusals.{Outcome, pass, refuse, answer_of, buffer_of}
 use Rattle.cdtext.specs.Check.{check_of}
 use Rattle.cdtext.specs.Packs.{packs, read_packs}
-use Rattle.packs.specs.declared.Head.{Head}
+use Rattle.cdtext.specs.Refusals.{number_of}
+use Rattle.cdtext.specs.declared.refusals.Refusal.{Refusal}
 
 -- what has to go into the lent buffer: for operation 1 the packs of a run of titles, for operation 2 the run of titles of packs
 abbrev pub work : ℕ → List ℕ → Outcome (List ℕ)
@@ -24,5 +25,6 @@ unfoldable pub answer_to : ℕ → List ℕ → List ℕ → List ℕ
 answer_to op payload lent = if (eqb op 3) (0 ∷ bytes16 (check_of payload) ++ lent) (head_of op (answer_of (work op payload) lent) ++ buffer_of (work op payload) lent)
 
 -- the three bytes as the program holds them
-abbrev pub bytes_of : Head → List ℕ
-bytes_of h = h.refusal ∷ bytes16 h.amount
+abbrev pub bytes_of : Result ℕ Refusal → List ℕ
+bytes_of (Ok amount) = 0 ∷ bytes16 amount
+bytes_of (Err r) = number_of r ∷ 0 ∷ 0 ∷ []

@@ -9,16 +9,14 @@
 // 0 where refused; then the lent buffer, which was filled with A5h beforehand.
 #![tactic(auto)]
 
-ghost use Rattle.std.specs.Prelude.{◌≡◌, true, false, [], ◌∷◌, ◌++◌, ◌+◌, ◌≤◌, length, take, drop, replicate};
-ghost use Rattle.basics.specs.Bytes.{bytes16};
-ghost use Rattle.cdtext.specs.Refusals.{number_of};
+ghost use Rattle.std.specs.Prelude.{◌≡◌, true, false, [], ◌++◌, ◌+◌, ◌≤◌, length, drop, MatchOption};
 ghost use Rattle.io.specs.Counts.{IsPrefixLen};
 ghost use Rattle.packs.specs.Answers.{answer_to, bytes_of};
-ghost use Rattle.packs.specs.Requests.{most_room, most_size, request_of, is_served, is_head, is_request, next_length, answered};
+ghost use Rattle.packs.specs.Requests.{most_room, number_of, listed, Says, is_head, is_request, next_length, answered};
 
 use cdtext::check::check_of;
 use cdtext::packs::{make_packs, read_packs};
-use cdtext::refusals::{Made, Read, Refusal, number};
+use cdtext::refusals::Refusal;
 use mmc::bytes::number16;
 
 // The descriptors of the standard streams.
@@ -26,134 +24,98 @@ const STDIN_FILENO: i32 = 0;
 
 const STDOUT_FILENO: i32 = 1;
 
-// What stands before the lent buffer in an answer.
-#[derive(Clone, Copy)]
-struct Head {
-    refusal: u8,
-    amount: u16,
-}
-
-// The head of a refusal.
-fn refused(r: Refusal) -> Head
-    ensures { bytes_of result ≡ number_of r ∷ 0 ∷ 0 ∷ [] }
-{
-    Head {
-        refusal: number(r),
-        amount: 0,
-    }
-}
-
-// The head where nothing is refused.
-fn accepted(amount: u16) -> Head
-    ensures { bytes_of result ≡ 0 ∷ bytes16 amount }
-{
-    Head {
-        refusal: 0,
-        amount: amount,
-    }
-}
-
-// Makes packs from titles.
-fn made(run: &[u8], lent: &mut [u8]) -> Head
-    requires { length lent.old ≤ most_room }
-    ensures { bytes_of result ++ lent.new ≡ answer_to 1 run.now lent.old }
-{
-    let answer = make_packs(run, lent);
-    match answer {
-        Made::Packs(n) => accepted(n as u16),
-        Made::Refused(r) => refused(r),
-    }
-}
-
-// Reads titles from packs.
-fn read(packs: &[u8], lent: &mut [u8]) -> Head
-    requires { length lent.old ≤ most_room }
-    ensures { bytes_of result ++ lent.new ≡ answer_to 2 packs.now lent.old }
-{
-    let answer = read_packs(packs, lent);
-    match answer {
-        Read::Titles(n) => accepted(n as u16),
-        Read::Refused(r) => refused(r),
-    }
-}
-
-// Does what the operation asks for.
-fn done(operation: u8, payload: &[u8], lent: &mut [u8]) -> Head
-    requires { (1 ≤ operation) × (operation ≤ 3) × (length lent.old ≤ most_room) }
-    ensures { bytes_of result ++ lent.new ≡ answer_to operation payload.now lent.old }
-{
-    match operation {
-        1 => made(payload, lent),
-        2 => read(payload, lent),
-        _ => accepted(check_of(payload)),
-    }
-}
-
-// Puts the answer to a request into out, where the lent buffer stands from the fourth byte on.
-fn put_answer(operation: u8, payload: &[u8], out: &mut [u8])
-    requires { (1 ≤ operation) × (operation ≤ 3) × (3 ≤ length out.old) × (length out.old ≤ 3 + most_room) }
-    ensures { out.new ≡ answer_to operation payload.now (drop 3 out.old) }
-{
-    let end = out.len();
-    let head = done(operation, payload, &mut out[3..end]);
-    out[0] = head.refusal;
-    out[1] = (head.amount / 256) as u8;
-    out[2] = (head.amount % 256) as u8;
-}
-
 // The longest lent buffer.
 const MOST_ROOM: usize = 8192;
 
 // The longest payload.
 const MOST_SIZE: usize = 32768;
 
+// The longest answer.
+const MOST_ANSWER: usize = 3 + MOST_ROOM;
+
+// What a request asks for: packs from titles, titles from packs, or check bytes.
+#[derive(Clone, Copy, Debug, PartialEq, Eq)]
+enum Operation {
+    Make,
+    Read,
+    Check,
+}
+
+// The operation that a byte names.
+impl TryFrom<u8> for Operation {
+    type Error = ();
+
+    ghost try_from_gives = { λ n r. r ≡ listed n };
+
+    fn try_from(n: u8) -> Result<Operation, ()> {
+        match n {
+            1 => Ok(Operation::Make),
+            2 => Ok(Operation::Read),
+            3 => Ok(Operation::Check),
+            _ => Err(()),
+        }
+    }
+}
+
+// Does what the operation asks for, and answers the amount to be told.
+fn done(operation: Operation, payload: &[u8], lent: &mut [u8]) -> Result<u16, Refusal>
+    requires { length lent.old ≤ most_room }
+    ensures { bytes_of result ++ lent.new ≡ answer_to (number_of operation) payload.now lent.old }
+{
+    match operation {
+        Operation::Make => Ok(make_packs(payload, lent)? as u16),
+        Operation::Read => Ok(read_packs(payload, lent)? as u16),
+        Operation::Check => Ok(check_of(payload)),
+    }
+}
+
+// The bytes that stand before the lent buffer in an answer.
+fn head_of(outcome: Result<u16, Refusal>) -> [u8; 3]
+    ensures { result ≡ bytes_of outcome }
+{
+    match outcome {
+        Ok(amount) => {
+            let [high, low] = amount.to_be_bytes();
+            [0, high, low]
+        }
+        Err(refusal) => [u8::from(refusal), 0, 0],
+    }
+}
+
+// Puts the answer to a request into out, where the lent buffer stands from the fourth byte on.
+fn put_answer(operation: Operation, payload: &[u8], out: &mut [u8])
+    requires { (3 ≤ length out.old) × (length out.old ≤ 3 + most_room) }
+    ensures { out.new ≡ answer_to (number_of operation) payload.now (drop 3 out.old) }
+{
+    let outcome = done(operation, payload, &mut out[3..]);
+    out[..3].copy_from_slice(&head_of(outcome));
+}
+
 // What the head of a request says: the operation, and the lengths of the lent buffer and of the payload.
 #[derive(Clone, Copy)]
 struct Request {
-    operation: u8,
+    operation: Operation,
     room: usize,
     size: usize,
 }
 
-// What five bytes say as the head of a request.
-fn request_of(head: &[u8]) -> Request
-    requires { length head.now ≡ 5 }
-    ensures { result ≡ request_of head.now }
-{
-    Request {
-        operation: head[0],
-        room: number16(&head[1..]) as usize,
-        size: number16(&head[3..]) as usize,
-    }
-}
-
-// Whether a request is within the limits, so that it is answered.
-fn is_served(r: Request) -> bool
-    ensures { result ≡ is_served r }
-{
-    if r.operation < 1 {
-        return false;
-    }
-    if 3 < r.operation {
-        return false;
-    }
-    if MOST_ROOM < r.room {
-        return false;
-    }
-    if MOST_SIZE < r.size {
-        return false;
-    }
-    true
-}
-
-// Whether the bytes are the head of a request.
-fn is_head(head: &[u8]) -> bool
-    ensures { result ≡ is_head head.now }
+// What the bytes say, where they are the head of a request within the limits.
+fn request_of(head: &[u8]) -> Option<Request>
+    ensures { MatchOption result (is_head head.now ≡ false) (λ r. Says head.now r) }
 {
     if head.len() != 5 {
-        return false;
+        return None;
     }
-    is_served(request_of(head))
+    let room = number16(&head[1..]) as usize;
+    let size = number16(&head[3..]) as usize;
+    match Operation::try_from(head[0]) {
+        Ok(operation) if room <= MOST_ROOM && size <= MOST_SIZE => Some(Request {
+            operation,
+            room,
+            size,
+        }),
+        _ => None,
+    }
 }
 
 // Reads until the space is full or the input ends, and tells how many bytes came. What came of the request before is named for the
@@ -181,78 +143,55 @@ fn stop(head: &[u8], payload: &[u8]) -> bool
     false
 }
 
-// Fills a buffer with A5h.
-fn clear(out: &mut [u8])
-    ensures { out.new ≡ replicate (length out.old) 0xA5 }
-{
-    let mut i: usize = 0;
-    while i < out.len() {
-        out[i] = 0xA5;
-        i = i + 1;
-    }
-}
-
 // Answers a request in a space of the answer's length, and tells whether the whole answer was written.
-fn reply(head: &[u8], payload: &[u8], out: &mut [u8]) -> bool
-    requires { (is_request head.now payload.now ≡ true) × (length out.old ≡ 3 + (request_of head.now).room) }
+fn reply(head: &[u8], request: Request, payload: &[u8], out: &mut [u8]) -> bool
+    requires { Says head.now request × (is_request head.now payload.now ≡ true) × (length out.old ≡ 3 + request.room) }
 {
-    let request = request_of(head);
-    clear(out);
+    out.fill(0xA5);
     put_answer(request.operation, payload, out);
     send(head, payload, out)
 }
 
-// Answers a request, and tells whether the whole answer was written. The space for answers is lent, so that it is not made anew.
-fn answer(head: &[u8], payload: &[u8], out: &mut [u8]) -> bool
-    requires { (is_request head.now payload.now ≡ true) × (length out.old ≡ 3 + most_room) }
+// Answers a request if its payload came whole, and tells whether to go on. The space for answers is lent, so that it is not made
+// anew.
+fn serve_payload(head: &[u8], request: Request, payload: &[u8], out: &mut [u8; MOST_ANSWER]) -> bool
+    requires { Says head.now request }
+    ensures { is_request head.now payload.now ≡ false → result ≡ false }
 {
-    let request = request_of(head);
-    let n = 3 + request.room;
-    reply(head, payload, &mut out[0..n])
-}
-
-// Answers a request if its payload came whole, and tells whether to go on. Of the space the first got bytes came.
-fn serve_payload(head: &[u8], space: &[u8], got: usize, out: &mut [u8]) -> bool
-    requires { (is_head head.now ≡ true) × IsPrefixLen got space.now × (length out.old ≡ 3 + most_room) }
-    ensures { is_request head.now (take got space.now) ≡ false → result ≡ false }
-{
-    let payload = &space[..got];
-    let request = request_of(head);
     if payload.len() != request.size {
         return stop(head, payload);
     }
-    answer(head, payload, out)
+    reply(head, request, payload, &mut out[..3 + request.room])
 }
 
 // Reads the payload that a head announces, into a space of that length, and answers the request.
-fn read_payload(head: &[u8], space: &mut [u8], out: &mut [u8]) -> bool
-    requires { (is_head head.now ≡ true) × (length space.old ≡ (request_of head.now).size) × (length out.old ≡ 3 + most_room) }
+fn read_payload(
+    head: &[u8],
+    request: Request,
+    space: &mut [u8],
+    out: &mut [u8; MOST_ANSWER],
+) -> bool
+    requires { Says head.now request × (length space.old ≡ request.size) }
 {
     let got = receive(head, space);
-    serve_payload(head, space, got, out)
+    serve_payload(head, request, &space[..got], out)
 }
 
-// Answers a request if what came is a head, and tells whether to go on. Of the space the first got bytes came.
-fn serve_head(space: &[u8], got: usize, payload: &mut [u8], out: &mut [u8]) -> bool
-    requires { IsPrefixLen got space.now × (length payload.old ≡ most_size) × (length out.old ≡ 3 + most_room) }
-    ensures { is_head (take got space.now) ≡ false → result ≡ false }
+// Answers a request if what came is a head, and tells whether to go on.
+fn serve_head(head: &[u8], payload: &mut [u8; MOST_SIZE], out: &mut [u8; MOST_ANSWER]) -> bool
+    ensures { is_head head.now ≡ false → result ≡ false }
 {
-    let head = &space[..got];
-    if !is_head(head) {
-        return stop(head, &[]);
+    match request_of(head) {
+        Some(request) => read_payload(head, request, &mut payload[..request.size], out),
+        None => stop(head, &[]),
     }
-    let request = request_of(head);
-    let size = request.size;
-    read_payload(head, &mut payload[0..size], out)
 }
 
 // Answers one request, and tells whether to go on. The spaces for payloads and for answers are lent.
-fn serve(payload: &mut [u8], out: &mut [u8]) -> bool
-    requires { (length payload.old ≡ most_size) × (length out.old ≡ 3 + most_room) }
-{
-    let mut space = [0u8; 5];
+fn serve(payload: &mut [u8; MOST_SIZE], out: &mut [u8; MOST_ANSWER]) -> bool {
+    let mut space = [0; 5];
     let got = receive(&[], &mut space);
-    serve_head(&space, got, payload, out)
+    serve_head(&space[..got], payload, out)
 }
 
 // Does nothing. Why the program ends is named for the contract alone: it is not to go on, or has had all its turns.
@@ -263,8 +202,8 @@ fn over(more: bool, turns: u64)
 // Answers requests until the input ends. A proved loop has to end, and nothing says that the input does: so the loop counts its
 // turns down, from a number that no run uses up.
 fn main() {
-    let mut payload = [0u8; MOST_SIZE];
-    let mut out = [0u8; 3 + MOST_ROOM];
+    let mut payload = [0; MOST_SIZE];
+    let mut out = [0; MOST_ANSWER];
     let mut turns = u64::MAX;
     let mut more = serve(&mut payload, &mut out);
     while turns > 0 && more {

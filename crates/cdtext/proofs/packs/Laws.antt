@@ -9,7 +9,8 @@ use lib.ListN.{length, replicate, length-append}
 use borrow.Author.Tests.{eq-eqb, leb-true, le-leb}
 use Rattle.basics.specs.Bytes.{if}
 use Rattle.mmc.specs.Refusals.{Outcome, pass, refuse}
-use Rattle.basics.proofs.Tests.{both, known, false_true}
+use Rattle.std.proofs.lemmas.Bool.{and_parts, false≢true}
+use Rattle.basics.proofs.Tests.{known}
 use Rattle.basics.proofs.Bytes.{same_is, same_refl}
 use Rattle.cdtext.specs.Titles.{is_character, most_titles, allowed, titles_from, title_count}
 use Rattle.cdtext.specs.Packs.{most_packs, packs, packs_of, packs_for, text_packs, size_record, size_packs, text_in, trimmed, run_in, packs_size, are_bytes, is_packs, read_packs}
@@ -63,13 +64,13 @@ no_gaps run b e = rw (← (packed run b e).are) (text run)
 -- an allowed run has a character and its zero
 none : allowed [] ≡ true → ⊥
 unfolding allowed titles_from title_count
-none h = false_true h
+none h = false≢true h
 
 one : (x : ℕ) → allowed (x ∷ []) ≡ true → ⊥
 unfolding allowed titles_from
 one x h =
-    let w = both (titles_from 0 (x ∷ [])) _ h in
-    known (eqb x 0) (λ e. false_true (rw e at w).0) (λ e. false_true (both (is_character x) false (rw e at w).0).1)
+    let w = and_parts (titles_from 0 (x ∷ [])) _ h in
+    known (eqb x 0) (λ e. false≢true (rw e at w).0) (λ e. false≢true (and_parts (is_character x) false (rw e at w).0).1)
 
 pub some : (run : List ℕ) → allowed run ≡ true → 2 ≤ length run
 some [] h = absurd (none h)
@@ -80,7 +81,7 @@ trims_back : (run : List ℕ) (n : ℕ) → allowed run ≡ true → trimmed (ru
 unfolding allowed
 trims_back [] n h = absurd (none h)
 trims_back (x ∷ xs) n h =
-    let w = both (titles_from 0 (x ∷ xs)) (leb 1 (title_count (x ∷ xs)) && leb (title_count (x ∷ xs)) most_titles) h in
+    let w = and_parts (titles_from 0 (x ∷ xs)) (leb 1 (title_count (x ∷ xs)) && leb (title_count (x ∷ xs)) most_titles) h in
     trims xs 0 x n w.0
 
 module _ (run b : List ℕ) (e : packs run ≡ pass b) where
@@ -114,7 +115,7 @@ reads_back run b e = rw (is_packs_lem run b e, run_back run b e)
 
 same_packs : (p : Outcome (List ℕ)) (b : List ℕ) → are_bytes p b ≡ true → p ≡ pass b
 same_packs (pass a) b h = ap pass (same_is a b h)
-same_packs (refuse n) b h = absurd (false_true h)
+same_packs (refuse n) b h = absurd (false≢true h)
 
 pub made : (b run : List ℕ) → read_packs b ≡ pass run → packs run ≡ pass b
 unfolding read_packs is_packs
@@ -124,7 +125,7 @@ made b run e = known (is_packs b) yes no
     yes t =
         let x : pass (run_in b) ≡ pass run = rw t at e in
         let y : run_in b ≡ run = cc in
-        rw (← y) (same_packs (packs (run_in b)) b (both (packs_size (length b)) (are_bytes (packs (run_in b)) b) t).1)
+        rw (← y) (same_packs (packs (run_in b)) b (and_parts (packs_size (length b)) (are_bytes (packs (run_in b)) b) t).1)
 
     no : is_packs b ≡ false → packs run ≡ pass b
     no t = let x : refuse 18 ≡ pass run = rw t at e in absurd (let y : ◌≡◌ {A = ℕ} 0 1 = cc in omega arith)

@@ -1,27 +1,29 @@
 -- What the count of titles and the length of a run say of its packs.
-use mathlib.Core.Path.{◌≡◌, refl, sym, ap, ◌∙◌}
+use mathlib.Core.Path.{◌≡◌, refl, sym, ap, ap₂, ◌∙◌}
 use mathlib.Core.List.{List, ◌++◌, append-nil, append_assoc}
-use mathlib.Core.Bool.{true, false}
+use mathlib.Core.Bool.{true}
 use Prim.Native.Nat.{ℕ, ◌+◌, ◌-◌, ◌*◌, ◌≤◌, ◌<◌}
 use native.Mathlib.Omega.{arith}
 use lib.Dec.{leb}
 use lib.ListN.{length, take, drop, length-drop, drop_of_length-le}
-use lib.Seq.{drop-drop, take_all}
+use lib.Seq.{drop-drop, take_all, take_at}
 use borrow.Author.Tests.{le-leb, lt-leb, leb-true}
-use Rattle.mmc.specs.Refusals.{pass, refuse, answer_of, buffer_of}
-use Rattle.basics.proofs.Tests.{known, both}
+use Rattle.std.specs.Prelude.{Result, Ok, Err, Some, None}
+use Rattle.std.proofs.lemmas.Option.{none-some, same_Some}
+use Rattle.basics.specs.Bytes.{same_bytes}
+use Rattle.mmc.specs.Refusals.{Outcome, pass, refuse, answer_of, buffer_of}
+use Rattle.std.proofs.lemmas.Bool.{and_parts}
+use Rattle.basics.proofs.Tests.{known}
 use Rattle.cdtext.specs.Titles.{most_titles, allowed, titles_from, title_count}
-use Rattle.cdtext.specs.Packs.{most_packs, longest_run, packs_for, packs_of, packs, text_packs, size_packs, size_record, run_in, are_bytes, Fits, Bears, FillsPacks, MakesPacks}
+use Rattle.cdtext.specs.Packs.{most_packs, longest_run, packs_for, packs_of, packs, text_packs, size_packs, size_record, are_bytes, Fits, Fills, MakesPacks}
 use Rattle.cdtext.specs.Refusals.{number_of}
-use Rattle.cdtext.specs.declared.refusals.Made.{Made}
-use Rattle.cdtext.specs.declared.refusals.Made.TheVariants as M
 use Rattle.cdtext.specs.declared.refusals.Refusal.{Refusal}
+use Rattle.cdtext.specs.declared.refusals.Refusal.TheVariants.{ShortBuffer}
 use Rattle.cdtext.proofs.titles.Steps.{found}
 use Rattle.cdtext.proofs.titles.Laws.{titles, allows}
 use Rattle.cdtext.proofs.packs.Steps.{put_more}
 use Rattle.cdtext.proofs.packs.Tracks.{placed}
 use Rattle.cdtext.proofs.packs.Texts.{texts_length}
-use Rattle.cdtext.proofs.packs.Comparing.{differ}
 use Rattle.cdtext.proofs.packs.Laws.{some, long, few, no_gaps, reads_back}
 
 -- ---- the count of titles
@@ -29,20 +31,23 @@ use Rattle.cdtext.proofs.packs.Laws.{some, long, few, no_gaps, reads_back}
 counts : (run : List ℕ) → allowed run ≡ true → (1 ≤ title_count run) × (title_count run ≤ most_titles)
 unfolding allowed
 counts run e =
-    let w = both (titles_from 0 run) _ e in
-    let v = both (leb 1 (title_count run)) (leb (title_count run) most_titles) w.1 in
+    let w = and_parts (titles_from 0 run) _ e in
+    let v = and_parts (leb 1 (title_count run)) (leb (title_count run) most_titles) w.1 in
     (leb-true 1 (title_count run) v.0, leb-true (title_count run) most_titles v.1)
 
 -- titles are counted
-pub counted : (run : List ℕ) (t : ℕ) → t ≡ found run → (t ≡ 0 → ⊥) → (allowed run ≡ true) × (t ≡ title_count run)
-counted run t e h = known (allowed run) (λ a. (a, e ∙ rw a)) (λ a. absurd (h (e ∙ rw a)))
+pub counted : (run : List ℕ) (t : ℕ) → found run ≡ Some t → (allowed run ≡ true) × (t ≡ title_count run)
+counted run t e =
+    known (allowed run)
+    (λ a. let q : Some (title_count run) ≡ Some t = rw a at e in (a, sym (same_Some _ _ q)))
+    (λ a. let q : None ≡ Some t = rw a at e in absurd (none-some t q))
 
 -- no titles are counted: 17
-pub none : (run : List ℕ) (t : ℕ) → t ≡ found run → t ≡ 0 → packs run ≡ refuse 17
+pub none : (run : List ℕ) → found run ≡ None → packs run ≡ refuse 17
 unfolding packs
-none run t e h =
+none run e =
     known (allowed run)
-    (λ a. let q : title_count run ≡ t = sym (e ∙ rw a) in absurd (omega (arith, (counts run a).0)))
+    (λ a. let q : Some (title_count run) ≡ None = rw a at e in absurd (none-some (title_count run) (sym q)))
     (λ a. rw a)
 
 -- ---- the length of the run
@@ -77,24 +82,24 @@ all_put run d out ys t n et en eo ey =
     put_more (text_packs run n) s d out (take (18 * n) out ++ (ys ++ drop (length out - 18 * n) r)) (18 * n) 54 (texts_length run n) eo q ∙ rw (k, en, et)
 
 -- a refusal leaves the buffer as it was
-pub refused : (run : List ℕ) (r : Refusal) (d : List ℕ) → packs run ≡ refuse (number_of r) → FillsPacks (packs run) (M.Refused r) d d
+pub refused : (run : List ℕ) (r : Refusal) (d : List ℕ) → packs run ≡ refuse (number_of r) → Fills 18 (packs run) (Err r) d d
 unfolding answer_of buffer_of
 refused run r d e = rw e (record { answer = refl; buffer = refl })
 
 -- 11
-pub too_short : (run d : List ℕ) → packs run ≡ pass (packs_of run) → length d < 18 * (packs_for run + 3) → FillsPacks (packs run) (M.Refused Refusal.ShortBuffer) d d
+pub too_short : (run d : List ℕ) → packs run ≡ pass (packs_of run) → length d < 18 * (packs_for run + 3) → Fills 18 (packs run) (Err ShortBuffer) d d
 unfolding answer_of buffer_of
 too_short run d e h =
     let l = lt-leb (length (packs_of run)) (length d) (omega (arith, long run)) in
     rw e (record { answer = rw l; buffer = rw l })
 
-pub filled : (run d out : List ℕ) (n : ℕ) → packs run ≡ pass (packs_of run) → 18 * (packs_for run + 3) ≤ length d → n ≡ packs_for run + 3 → out ≡ packs_of run ++ drop (18 * (packs_for run + 3)) d → FillsPacks (packs run) (M.Packs n) d out
+pub filled : (run d out : List ℕ) (n : ℕ) → packs run ≡ pass (packs_of run) → 18 * (packs_for run + 3) ≤ length d → n ≡ packs_for run + 3 → out ≡ packs_of run ++ drop (18 * (packs_for run + 3)) d → Fills 18 (packs run) (Ok n) d out
 unfolding answer_of buffer_of
 filled run d out n e h en eo =
     let l = le-leb (length (packs_of run)) (length d) (omega (arith, long run)) in
     rw e (record { answer = rw (l, en, long run); buffer = eo ∙ rw (l, long run) })
 
-pub makes : {run : List ℕ} {r : Made} {before after : List ℕ} → FillsPacks (packs run) r before after → MakesPacks run r before after
+pub makes : {run : List ℕ} {r : Result ℕ Refusal} {before after : List ℕ} → Fills 18 (packs run) r before after → MakesPacks run r before after
 makes {run} f =
     record {
       filled = f;
@@ -108,9 +113,37 @@ makes {run} f =
 
 -- ---- whether bytes are the packs
 
-pub other_length : (run b : List ℕ) → packs run ≡ pass (packs_of run) → (length b ≡ 18 * (packs_for run + 3) → ⊥) → false ≡ are_bytes (packs run) b
-other_length run b e h = rw e (differ (packs_of run) b (λ q. h (ap length (sym q) ∙ long run)))
+-- the packs are made at the start of a buffer
+pub made_are : (run b d out : List ℕ) (n : ℕ) → Fills 18 (packs run) (Ok n) d out → same_bytes (take (18 * n) out) b ≡ are_bytes (packs run) b
+unfolding answer_of buffer_of
+made_are run b d out n f = by (packs run) f.answer f.buffer
+  where
+    by : (o : Outcome (List ℕ)) → pass (18 * n) ≡ answer_of o d → out ≡ buffer_of o d → same_bytes (take (18 * n) out) b ≡ are_bytes o b
+    by (pass p) e q =
+        known (leb (length p) (length d))
+        (λ t. let x : pass (18 * n) ≡ pass (length p) = rw t at e in let y : 18 * n ≡ length p = cc in let z : out ≡ p ++ drop (length p) d = rw t at q in
+        ap (λ (l : List ℕ). same_bytes l b) (ap₂ (take {A = ℕ}) y z ∙ take_at p (drop (length p) d) (length p) refl))
+        (λ t. let x : pass (18 * n) ≡ refuse 11 = rw t at e in absurd (let z : ◌≡◌ {A = ℕ} 0 1 = cc in omega arith))
+    by (refuse m) e q = absurd (let z : ◌≡◌ {A = ℕ} 0 1 = cc in omega arith)
 
--- bytes as long as the packs of the titles that their text gives
-pub bears : (run b : List ℕ) (n : ℕ) → allowed run ≡ true → length run ≤ longest_run → n ≡ packs_for run → length b ≡ 18 * (n + 3) → run ≡ run_in b → Bears run n b
-bears run b n a h en el e = record { text = e; packs = en; few = (counts run a).1; short = omega arith; long = el }
+-- none are made, where the buffer is as long as the most packs
+pub none_are : (run b d out : List ℕ) (r : Refusal) → Fills 18 (packs run) (Err r) d out → ((p : List ℕ) → packs run ≡ pass p → length p ≤ length d) → are_bytes (refuse 0) b ≡ are_bytes (packs run) b
+unfolding answer_of
+none_are run b d out r f h = by (packs run) f.answer h
+  where
+    by : (o : Outcome (List ℕ)) → refuse (number_of r) ≡ answer_of o d → ((p : List ℕ) → o ≡ pass p → length p ≤ length d) → are_bytes (refuse 0) b ≡ are_bytes o b
+    by (pass p) e l =
+        let x : refuse (number_of r) ≡ pass (length p) = rw (le-leb (length p) (length d) (l p refl)) at e in absurd (let z : ◌≡◌ {A = ℕ} 0 1 = cc in omega arith)
+    by (refuse m) e l = refl
+
+-- packs that are made are no longer than the buffer
+pub made_fit : (run d out : List ℕ) (n : ℕ) → Fills 18 (packs run) (Ok n) d out → 18 * n ≤ length d
+unfolding answer_of
+made_fit run d out n f = by (packs run) f.answer
+  where
+    by : (o : Outcome (List ℕ)) → pass (18 * n) ≡ answer_of o d → 18 * n ≤ length d
+    by (pass p) e =
+        known (leb (length p) (length d))
+        (λ t. let x : pass (18 * n) ≡ pass (length p) = rw t at e in let y : 18 * n ≡ length p = cc in omega (arith, leb-true (length p) (length d) t))
+        (λ t. let x : pass (18 * n) ≡ refuse 11 = rw t at e in absurd (let z : ◌≡◌ {A = ℕ} 0 1 = cc in omega arith))
+    by (refuse m) e = absurd (let z : ◌≡◌ {A = ℕ} 0 1 = cc in omega arith)

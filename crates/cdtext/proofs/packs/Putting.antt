@@ -42,7 +42,7 @@ putting_start run n d f e =
     }
 
 -- the twelve bytes of a pack, or what is left of the run
-piece_is : (run : List ℕ) (a e : ℕ) → a ≤ length run → e ≡ min (a + 12) (length run) → take (e - a) (drop a run) ≡ take 12 (drop a run)
+piece_is : (run : List ℕ) (a e : ℕ) → a ≤ length run → e ≡ min (length run) (a + 12) → take (e - a) (drop a run) ≡ take 12 (drop a run)
 piece_is run a e h q =
     known (leb (a + 12) (length run))
     (λ t. let w : e - a ≡ 12 = omega (arith, leb-true (a + 12) (length run) t) in rw w)
@@ -54,7 +54,7 @@ abbrev PutAt : List ℕ → List ℕ → ℕ → List ℕ → Type 0
 PutAt out out' k p = out' ≡ take (18 * k) out ++ p ++ drop (18 * k + 18) out
 
 pub putting_next : (run : List ℕ) (n : ℕ) (d out : List ℕ) (place : Place) (k : ℕ) → Putting run n d out place k → k < n
-    → (e position : ℕ) → e ≡ min (12 * k + 12) (length run) → position ≡ min place.count most_position
+    → (e position : ℕ) → e ≡ min (length run) (12 * k + 12) → position ≡ min place.count most_position
     → (p out' : List ℕ) → p ≡ pack 0x80 place.track k position (take (e - 12 * k) (drop (12 * k) run)) → PutAt out out' k p → length out' ≡ length out
     → (place' : Place) → place' ≡ place_after place (take (e - 12 * k) (drop (12 * k) run)) → Putting run n d out' place' (k + 1)
 unfolding text_packs text_pack

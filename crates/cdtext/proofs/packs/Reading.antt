@@ -1,21 +1,21 @@
 -- The text of packs gathered pack by pack, and cut behind its last byte that is not zero.
-use mathlib.Core.Path.{◌≡◌, refl, sym, ap, ◌∙◌}
+use mathlib.Core.Path.{◌≡◌, refl, ap, ◌∙◌}
 use mathlib.Core.List.{List, [], ◌∷◌, ◌++◌, append_assoc}
 use mathlib.Core.Bool.{Bool, true, false, ◌&&◌}
-use Prim.Native.Nat.{ℕ, zero, suc, ◌+◌, ◌-◌, ◌*◌, ◌≤◌, ◌<◌}
+use Prim.Native.Nat.{ℕ, zero, suc, ◌+◌, ◌*◌, ◌≤◌, ◌<◌}
 use native.Mathlib.Numerals.{add-one}
 use native.Mathlib.Omega.{arith}
 use lib.Dec.{eqb}
 use lib.ListN.{length, get_or, take, drop, length-append, length-drop}
-use lib.Seq.{length-take-le, take-suc, take-length, take-append-add}
+use lib.Seq.{length-take-le, drop-drop, take-append-add}
+use borrow.Rule.Slice.PartMut.{put_mid}
 use borrow.Author.Tests.{eq-eqb, ne_eqb}
-use Rattle.basics.specs.Bytes.{if, all_zero}
-use Rattle.mmc.specs.Refusals.{pass, buffer_of}
+use Rattle.basics.specs.Bytes.{all_zero}
 use Rattle.basics.proofs.Tests.{known}
 use Rattle.basics.proofs.Lists.{zeros}
 use Rattle.basics.proofs.Bytes.{zeros_are}
 use Rattle.cdtext.specs.Packs.{text_in, trimmed}
-use Rattle.cdtext.proofs.packs.Steps.{put_part, put_more}
+use Rattle.cdtext.proofs.packs.Steps.{put_more}
 
 -- ---- the text of packs
 
@@ -39,20 +39,19 @@ unfolding text_in
 gathering_start b n d h r = record { reach = omega arith; packs = h; room = r; long = refl; done = refl }
 
 pub gathering_next : (b : List ℕ) (n : ℕ) (d text : List ℕ) (k : ℕ) → Gathering b n d text k → k < n → (u w : ℕ) → u ≡ 12 → w ≡ 12
-    → (ys : List ℕ) → ys ≡ buffer_of (pass (take u (drop (18 * k + 4) b))) (take w (drop (12 * k) text))
-    → Gathering b n d (take (12 * k) text ++ (ys ++ drop w (drop (12 * k) text))) (k + 1)
+    → (ys : List ℕ) → ys ≡ take u (drop (18 * k + 4) b) → Gathering b n d (put_mid (12 * k) w text ys) (k + 1)
 unfolding text_in
 gathering_next b n d text k v h u w eu ew ys ey =
     let hb = v.packs in
     let hd = v.room in
     let hl = v.long in
-    let t' = take (12 * k) text ++ (ys ++ drop w (drop (12 * k) text)) in
+    let t' = put_mid (12 * k) w text ys in
     let s = text_in k b in
     let p = take u (drop (18 * k + 4) b) in
     let lp : length p ≡ 12 = length-take-le u (drop (18 * k + 4) b) (omega (arith, length-drop (18 * k + 4) b)) ∙ eu in
     let ls = text_length k b (omega arith) in
     let n1 : 12 * k + 12 ≡ 12 * suc k = omega arith in
-    let q = put_part text p ys (12 * k) w 12 ew lp (omega arith) ey in
+    let q : t' ≡ take (12 * k) text ++ p ++ drop (12 * k + 12) text = rw (ey, ew, drop-drop 12 (12 * k) text, append_assoc (take (12 * k) text) p (drop (12 * k + 12) text)) in
     let f : t' ≡ s ++ p ++ drop (12 * k + 12) d = put_more s p d text t' (12 * k) 12 ls v.done q in
     record {
       reach = omega arith;
@@ -70,67 +69,36 @@ gathering_end b n d text k v h =
 
 -- ---- the end of a text
 
-zero_last : (xs : List ℕ) (x : ℕ) → all_zero (xs ++ x ∷ []) ≡ (all_zero xs && eqb x 0)
+-- a text of zeros alone
+all_zeros : (xs : List ℕ) → ((k : ℕ) → k < length xs → get_or xs k 0 ≡ 0) → all_zero xs ≡ true
 unfolding all_zero
-zero_last [] x = either (eqb x 0)
-  where
-    either : (b : Bool) → (b && true) ≡ b
-    either true = refl
-    either false = refl
-zero_last (y ∷ xs) x = rw (zero_last xs x) (either (eqb y 0))
-  where
-    either : (b : Bool) → (b && (all_zero xs && eqb x 0)) ≡ ((b && all_zero xs) && eqb x 0)
-    either true = refl
-    either false = refl
+all_zeros [] h = refl
+all_zeros (x ∷ xs) h = rw (eq-eqb x 0 (h 0 (omega arith)), all_zeros xs (λ k l. h (suc k) (omega arith)))
 
--- a zero at the end goes, any other byte stays
-cut_zero : (xs : List ℕ) (x : ℕ) → eqb x 0 ≡ true → trimmed (xs ++ x ∷ []) ≡ trimmed xs
-unfolding trimmed all_zero
-cut_zero [] x e = rw e
-cut_zero (y ∷ xs) x e = rw (zero_last xs x, e, cut_zero xs x e) (either (eqb y 0) (all_zero xs))
-  where
-    either : (a b : Bool) → if (a && (b && true)) [] (y ∷ trimmed xs) ≡ if (a && b) [] (y ∷ trimmed xs)
-    either true true = refl
-    either true false = refl
-    either false b = refl
-
-cut_none : (xs : List ℕ) (x : ℕ) → eqb x 0 ≡ false → trimmed (xs ++ x ∷ []) ≡ xs ++ x ∷ []
-unfolding trimmed all_zero
-cut_none [] x e = rw e
-cut_none (y ∷ xs) x e = rw (zero_last xs x, e, cut_none xs x e) (either (eqb y 0) (all_zero xs))
-  where
-    either : (a b : Bool) → if (a && (b && false)) [] (y ∷ (xs ++ x ∷ [])) ≡ y ∷ (xs ++ x ∷ [])
-    either true true = refl
-    either true false = refl
-    either false b = refl
-
--- all bytes behind the first n are zero
-abbrev pub Cut : List ℕ → ℕ → Type 0
-Cut text n = (n ≤ length text) × (trimmed (take n text) ≡ trimmed text)
-
-pub cut_start : (text : List ℕ) → Cut text (length text)
-cut_start text = (omega arith, ap trimmed (take-length text))
-
-take_last : (text : List ℕ) (n : ℕ) → 0 < n → n ≤ length text → take n text ≡ take (n - 1) text ++ get_or text (n - 1) 0 ∷ []
-take_last text n h l =
-    let e : n ≡ suc (n - 1) = omega arith in
-    ap (λ (m : ℕ). take m text) e ∙ take-suc text (n - 1) 0 (omega arith)
-
-pub cut_next : (text : List ℕ) (n : ℕ) → Cut text n → 0 < n → get_or text (n - 1) 0 ≡ 0 → Cut text (n - 1)
-cut_next text n v h z =
-    (omega arith, sym (ap trimmed (take_last text n h v.0) ∙ cut_zero (take (n - 1) text) (get_or text (n - 1) 0) (eq-eqb (get_or text (n - 1) 0) 0 z)) ∙ v.1)
-
-pub cut_found : (text : List ℕ) (n : ℕ) → Cut text n → 0 < n → (get_or text (n - 1) 0 ≡ 0 → ⊥) → n ≡ length (trimmed text)
-cut_found text n v h z =
-    let e = take_last text n h v.0 in
-    let t = sym v.1 ∙ ap trimmed e ∙ cut_none (take (n - 1) text) (get_or text (n - 1) 0) (ne_eqb (get_or text (n - 1) 0) 0 z) ∙ sym e in
-    sym (ap length t ∙ length-take-le n text v.0)
-
-pub cut_end : (text : List ℕ) (n : ℕ) → Cut text n → n ≤ 0 → 0 ≡ length (trimmed text)
+pub none_left : (xs : List ℕ) → ((k : ℕ) → k < length xs → get_or xs k 0 ≡ 0) → length (trimmed xs) ≡ 0
 unfolding trimmed
-cut_end text n v h =
-    let e : n ≡ 0 = omega arith in
-    ap length (sym (ap (λ (m : ℕ). trimmed (take m text)) e) ∙ v.1)
+none_left [] h = refl
+none_left (x ∷ xs) h = rw (all_zeros (x ∷ xs) h)
+
+-- one that is not zero
+not_zeros : (xs : List ℕ) (i : ℕ) → i < length xs → (get_or xs i 0 ≡ 0 → ⊥) → all_zero xs ≡ false
+unfolding all_zero
+not_zeros [] i h n = absurd (omega arith)
+not_zeros (x ∷ xs) zero h n = rw (ne_eqb x 0 n)
+not_zeros (x ∷ xs) (suc i) h n = rw (not_zeros xs i (omega arith) n) (none (eqb x 0))
+  where
+    none : (b : Bool) → (b && false) ≡ false
+    none true = refl
+    none false = refl
+
+-- with zeros alone behind it
+pub last_left : (xs : List ℕ) (i : ℕ) → i < length xs → (get_or xs i 0 ≡ 0 → ⊥) → ((k : ℕ) → i < k → k < length xs → get_or xs k 0 ≡ 0) → length (trimmed xs) ≡ i + 1
+unfolding trimmed
+last_left [] i h n z = absurd (omega arith)
+last_left (x ∷ xs) zero h n z =
+    rw (not_zeros (x ∷ xs) zero h n) (omega (arith, none_left xs (λ k l. z (suc k) (omega arith) (omega arith))))
+last_left (x ∷ xs) (suc i) h n z =
+    rw (not_zeros (x ∷ xs) (suc i) h n) (omega (arith, last_left xs i (omega arith) n (λ k a l. z (suc k) (omega arith) (omega arith))))
 
 -- ---- a text over zeros
 

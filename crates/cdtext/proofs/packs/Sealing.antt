@@ -1,41 +1,42 @@
 -- A pack as it is built: four bytes, the text over zeros, and the check bytes behind them.
-use mathlib.Core.Path.{◌≡◌, ap, ◌∙◌}
-use mathlib.Core.List.{List, [], ◌∷◌, ◌++◌, append_assoc}
-use Prim.Native.Nat.{ℕ, zero, ◌-◌, ◌/◌, ◌%◌, ◌≤◌}
+use mathlib.Core.Path.{◌≡◌, refl, ap, ap₂, ◌∙◌}
+use mathlib.Core.List.{List, [], ◌∷◌, ◌++◌, append_assoc, append-nil}
+use Prim.Native.Nat.{ℕ, zero, suc, ◌-◌, ◌≤◌, ◌<◌}
 use native.Mathlib.Omega.{arith}
-use lib.ListN.{length, take, set, replicate, length-append, length-replicate}
-use lib.Seq.{take_at, set_at}
-use borrow.Author.Tests.{le-leb}
-use Rattle.mmc.specs.Refusals.{pass, buffer_of}
-use Rattle.basics.proofs.Lists.{drop_zeros}
+use lib.ListN.{length, take, drop, length-append, length-replicate}
+use lib.Seq.{take_at, drop_at}
+use borrow.Rule.Slice.PartMut.{put_mid}
+use Rattle.std.specs.Int.{to_be_bytes, w16}
+use Rattle.basics.specs.Bytes.{bytes16}
+use Rattle.basics.proofs.Bytes.{be_bytes16}
+use Rattle.basics.proofs.Lists.{zeros, drop_zeros}
 use Rattle.cdtext.specs.Check.{check_of}
 use Rattle.cdtext.specs.Packs.{padded, pack}
 
--- the text over twelve zeros
-over_zeros : (text : List ℕ) → length text ≤ 12 → buffer_of (pass text) (replicate 12 0) ≡ padded text
-unfolding buffer_of
-over_zeros text h = rw (le-leb (length text) 12 h, drop_zeros (length text) 12 h)
-
 pub padded_length : (text : List ℕ) → length text ≤ 12 → length (padded text) ≡ 12
-padded_length text h = omega (arith, length-append text (replicate (12 - length text) 0), length-replicate (12 - length text) (zero))
+padded_length text h = omega (arith, length-append text (zeros (12 - length text)), length-replicate (12 - length text) (zero))
 
--- the check bytes over the two zeros behind sixteen bytes
-sealing : (s : List ℕ) (x y : ℕ) → length s ≡ 16 → set (set (s ++ 0 ∷ 0 ∷ []) 16 x) 17 y ≡ s ++ x ∷ y ∷ []
-sealing s x y e =
-    let n : length (s ++ x ∷ []) ≡ 17 = omega (arith, length-append s (x ∷ [])) in
-    rw (set_at s 0 (0 ∷ []) x 16 e, ← append_assoc s (x ∷ []) (0 ∷ []), set_at (s ++ x ∷ []) 0 [] y 17 n, append_assoc s (x ∷ []) (y ∷ []))
+two_more : (n : ℕ) → zeros (suc (suc n)) ≡ zeros n ++ 0 ∷ 0 ∷ []
+two_more zero = refl
+two_more (suc n) = ap (λ (l : List ℕ). 0 ∷ l) (two_more n)
 
-abbrev pub unsealed : ℕ → ℕ → ℕ → ℕ → List ℕ → List ℕ
-unsealed a b c d ys = a ∷ b ∷ c ∷ d ∷ (ys ++ 0 ∷ 0 ∷ [])
+-- the text over fourteen zeros, behind four bytes
+abbrev pub unsealed : List ℕ → ℕ → List ℕ → List ℕ
+unsealed h j ys = put_mid 4 j (h ++ zeros 14) ys
 
-pub unsealed_long : (a b c d : ℕ) (ys : List ℕ) → length ys ≡ 12 → 16 ≤ length (unsealed a b c d ys)
-unsealed_long a b c d ys e = omega (arith, length-append ys (0 ∷ 0 ∷ []))
+unsealed_is : (a b c d : ℕ) (text h ys : List ℕ) (j : ℕ) → length text ≤ 12 → h ≡ a ∷ b ∷ c ∷ d ∷ [] → j ≡ length text → ys ≡ text → unsealed h j ys ≡ (a ∷ b ∷ c ∷ d ∷ padded text) ++ 0 ∷ 0 ∷ []
+unsealed_is a b c d text h ys j l eh ej ey =
+    let n : 14 - length text ≡ suc (suc (12 - length text)) = omega arith in
+    rw (eh, ej, ey, drop_zeros (length text) 14 (omega arith), n, two_more (12 - length text), append_assoc text (zeros (12 - length text)) (0 ∷ 0 ∷ []))
 
-pub pack_is : (a b c d : ℕ) (text ys : List ℕ) (k : ℕ) → length text ≤ 12 → ys ≡ buffer_of (pass text) (replicate 12 0) → k ≡ check_of (take 16 (unsealed a b c d ys)) → set (set (unsealed a b c d ys) 16 (k / 256)) 17 (k % 256) ≡ pack a b c d text
+pub pack_is : (a b c d : ℕ) (text h ys ks : List ℕ) (j k : ℕ) → length text ≤ 12 → h ≡ a ∷ b ∷ c ∷ d ∷ [] → j ≡ length text → ys ≡ text → k ≡ check_of (take 16 (unsealed h j ys)) → k < 65536 → ks ≡ to_be_bytes w16 k
+    → put_mid 16 2 (unsealed h j ys) ks ≡ pack a b c d text
 unfolding pack
-pack_is a b c d text ys k h e ek =
+pack_is a b c d text h ys ks j k l eh ej ey ek lk es =
     let s = a ∷ b ∷ c ∷ d ∷ padded text in
-    let n : length s ≡ 16 = omega (arith, padded_length text h) in
-    let w = e ∙ over_zeros text h in
-    let q : k ≡ check_of s = ek ∙ ap (λ (z : List ℕ). check_of (take 16 (unsealed a b c d z))) w ∙ ap check_of (take_at s (0 ∷ 0 ∷ []) 16 n) in
-    ap (λ (z : List ℕ). set (set (unsealed a b c d z) 16 (k / 256)) 17 (k % 256)) w ∙ sealing s (k / 256) (k % 256) n ∙ ap (λ (z : ℕ). s ++ (z / 256) ∷ (z % 256) ∷ []) q
+    let n : length s ≡ 16 = omega (arith, padded_length text l) in
+    let u = unsealed_is a b c d text h ys j l eh ej ey in
+    let t : take 16 (unsealed h j ys) ≡ s = ap (take 16) u ∙ take_at s (0 ∷ 0 ∷ []) 16 n in
+    let r : drop 2 (drop 16 (unsealed h j ys)) ≡ [] = ap (λ (z : List ℕ). drop 2 (drop 16 z)) u ∙ ap (drop 2) (drop_at s (0 ∷ 0 ∷ []) 16 n) in
+    let q : ks ≡ bytes16 (check_of s) = es ∙ be_bytes16 k lk ∙ ap bytes16 (ek ∙ ap check_of t) in
+    ap₂ (λ (y z : List ℕ). y ++ (ks ++ z)) t r ∙ ap (λ (z : List ℕ). s ++ z) (append-nil ks ∙ q)

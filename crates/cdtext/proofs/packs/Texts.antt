@@ -3,18 +3,21 @@ use mathlib.Core.Path.{◌≡◌, refl, sym, ap, ◌∙◌}
 use mathlib.Core.List.{List, [], ◌∷◌, ◌++◌, append_assoc, append-nil}
 use mathlib.Core.Bool.{true, false}
 use Prim.Native.Nat.{ℕ, zero, suc, ◌+◌, ◌-◌, ◌*◌, ◌≤◌, min}
+use native.Mathlib.Numerals.{add-one}
 use native.Mathlib.Omega.{arith}
 use lib.Dec.{eqb}
 use lib.ListN.{length, take, drop, replicate, length-append, length-take, length-drop}
 use lib.Seq.{take-append-le, drop-append-le, take_at, drop_at, drop-drop, take-add, take_all}
 use borrow.Author.Tests.{eqb-true}
 use Rattle.basics.specs.Bytes.{bytes16, all_zero}
-use Rattle.basics.proofs.Tests.{both, known, false_true}
+use Rattle.std.proofs.lemmas.Bool.{and_parts, false≢true}
+use Rattle.basics.proofs.Tests.{known}
 use Rattle.basics.proofs.Bytes.{zeros_zero}
 use Rattle.cdtext.specs.Check.{check_of}
 use Rattle.cdtext.specs.Titles.{titles_from, is_character, title_length}
 use Rattle.cdtext.specs.Packs.{most_position, padded, pack, place_at, text_pack, text_packs, size_pack, size_packs, text_in, trimmed}
 use Rattle.cdtext.proofs.packs.Sealing.{padded_length}
+use Rattle.cdtext.proofs.packs.Steps.{put_more}
 
 -- ---- lengths
 
@@ -51,6 +54,35 @@ sizes_length sizes p =
     let b : List ℕ = size_pack sizes p 1 in
     let c : List ℕ = size_pack sizes p 2 in
     omega (arith, length-append (a ++ b) c, length-append a b, size_length sizes p 0, size_length sizes p 1, size_length sizes p 2)
+
+-- the first i of the size packs
+unfoldable pub sizes_up_to : List ℕ → ℕ → ℕ → List ℕ
+sizes_up_to sizes p zero = []
+sizes_up_to sizes p (suc i) = sizes_up_to sizes p i ++ size_pack sizes p i
+
+sizes_up_to_length : (sizes : List ℕ) (p i : ℕ) → length (sizes_up_to sizes p i) ≡ 18 * i
+unfolding sizes_up_to
+sizes_up_to_length sizes p zero = refl
+sizes_up_to_length sizes p (suc i) =
+    omega (arith, length-append (sizes_up_to sizes p i) (size_pack sizes p i), sizes_up_to_length sizes p i, size_length sizes p i)
+
+pub no_sizes : (sizes d : List ℕ) (p : ℕ) → d ≡ sizes_up_to sizes p 0 ++ d
+unfolding sizes_up_to
+no_sizes sizes d p = refl
+
+pub all_sizes : (sizes s d out : List ℕ) (p i : ℕ) → i ≤ 3 → 3 ≤ i → sizes ≡ s → out ≡ sizes_up_to sizes p i ++ drop (18 * i) d → out ≡ size_packs s p ++ drop 54 d
+unfolding sizes_up_to
+all_sizes sizes s d out p i l m e eo =
+    let n : i ≡ 3 = omega arith in
+    eo ∙ rw (n, e)
+
+-- one more of them, behind the others
+pub more_sizes : (sizes d out out' q : List ℕ) (p i : ℕ) → out ≡ sizes_up_to sizes p i ++ drop (18 * i) d → q ≡ size_pack sizes p i → out' ≡ take (18 * i) out ++ q ++ drop (18 * i + 18) out
+    → out' ≡ sizes_up_to sizes p (i + 1) ++ drop (18 * (i + 1)) d
+unfolding sizes_up_to
+more_sizes sizes d out out' q p i e eq eo =
+    let n : 18 * i + 18 ≡ 18 * suc i = omega arith in
+    put_more (sizes_up_to sizes p i) q d out out' (18 * i) 18 (sizes_up_to_length sizes p i) e eo ∙ rw (eq, n, add-one i)
 
 -- ---- the text of packs
 
@@ -115,7 +147,7 @@ stays_before x y ys e = known (eqb x 0) (λ z. rw (z, e)) (λ z. rw z)
 -- a title begins with a character
 begins : (y : ℕ) (ys : List ℕ) → titles_from 0 (y ∷ ys) ≡ true → eqb y 0 ≡ false
 unfolding titles_from
-begins y ys h = known (eqb y 0) (λ e. absurd (false_true (rw e at h))) (λ e. e)
+begins y ys h = known (eqb y 0) (λ e. absurd (false≢true (rw e at h))) (λ e. e)
 
 last : (x n : ℕ) → eqb x 0 ≡ true → trimmed (x ∷ replicate n 0) ++ 0 ∷ [] ≡ x ∷ []
 unfolding trimmed all_zero
@@ -127,12 +159,12 @@ unfolding titles_from
 trims [] c x n h = known (eqb x 0)
     (λ e. last x n e)
     (λ e.
-    let w = both (is_character x) (eqb (c + 1) 0) (rw e at h) in
+    let w = and_parts (is_character x) (eqb (c + 1) 0) (rw e at h) in
     absurd (omega (arith, eqb-true (c + 1) 0 w.1)))
 trims (y ∷ ys) c x n h = known (eqb x 0)
     (λ e.
-    let w = both (title_length c) (titles_from 0 (y ∷ ys)) (rw e at h) in
+    let w = and_parts (title_length c) (titles_from 0 (y ∷ ys)) (rw e at h) in
     rw (stays_before x y (ys ++ replicate n 0) (begins y ys w.1), trims ys 0 y n w.1))
     (λ e.
-    let w = both (is_character x) (titles_from (c + 1) (y ∷ ys)) (rw e at h) in
+    let w = and_parts (is_character x) (titles_from (c + 1) (y ∷ ys)) (rw e at h) in
     rw (stays x (y ∷ ys ++ replicate n 0) e, trims ys (c + 1) y n w.1))

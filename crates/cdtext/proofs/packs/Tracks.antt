@@ -6,7 +6,7 @@ use Prim.Native.Nat.{ℕ, zero, suc, ◌+◌, ◌*◌, ◌≤◌}
 use native.Mathlib.Omega.{arith}
 use lib.ListN.{length, take}
 use lib.Seq.{take-append-add, take-append-le, length-take-le}
-use Rattle.basics.proofs.Tests.{both}
+use Rattle.std.proofs.lemmas.Bool.{and_parts}
 use Rattle.cdtext.specs.Titles.{is_character, title_length, all_characters, all_titles, run_of}
 use Rattle.cdtext.specs.Packs.{place_after, place_at, first_place, IsRun}
 use Rattle.cdtext.specs.declared.packs.Place.{Place}
@@ -23,7 +23,7 @@ unfolding all_characters
 first_characters zero t h = refl
 first_characters (suc m) [] h = refl
 first_characters (suc m) (x ∷ t) h =
-    let w = both (is_character x) (all_characters t) h in
+    let w = and_parts (is_character x) (all_characters t) h in
     rw (w.0, first_characters m t w.1)
 
 run_append : (before after : List (List ℕ)) → run_of (before ++ after) ≡ run_of before ++ run_of after
@@ -35,7 +35,7 @@ titles_append : (before after : List (List ℕ)) → all_titles (before ++ after
 unfolding all_titles
 titles_append [] after h = (refl, h)
 titles_append (t ∷ before) after h =
-    let w = both (title_length (length t) && all_characters t) (all_titles (before ++ after)) h in
+    let w = and_parts (title_length (length t) && all_characters t) (all_titles (before ++ after)) h in
     let r = titles_append before after w.1 in
     (rw (w.0, r.0), r.1)
 
@@ -46,7 +46,7 @@ behind_characters : (t : List ℕ) (n c : ℕ) → all_characters t ≡ true →
 unfolding place_after all_characters
 behind_characters [] n c h = ap (at n) (omega arith)
 behind_characters (x ∷ t) n c h =
-    let w = both (is_character x) (all_characters t) h in
+    let w = and_parts (is_character x) (all_characters t) h in
     rw (not_end x w.0) (behind_characters t n (c + 1) w.1 ∙ ap (at n) (omega arith))
 
 -- each title brings the next track
@@ -54,8 +54,8 @@ behind_titles : (ts : List (List ℕ)) (n : ℕ) → all_titles ts ≡ true → 
 unfolding place_after all_titles run_of
 behind_titles [] n h = ap (λ (k : ℕ). at k 0) (omega arith)
 behind_titles (t ∷ ts) n h =
-    let w = both (title_length (length t) && all_characters t) (all_titles ts) h in
-    let v = both (title_length (length t)) (all_characters t) w.0 in
+    let w = and_parts (title_length (length t) && all_characters t) (all_titles ts) h in
+    let v = and_parts (title_length (length t)) (all_characters t) w.0 in
     place_append (at n 0) t (0 ∷ run_of ts)
     ∙ ap (λ (p : Place). place_after p (0 ∷ run_of ts)) (behind_characters t n 0 v.1)
     ∙ behind_titles ts (n + 1) w.1
@@ -65,8 +65,8 @@ pub placed : (run : List ℕ) (before after : List (List ℕ)) (t : List ℕ) (k
 unfolding run_of all_titles
 placed run before after t k m i e h =
     let g = titles_append before (t ∷ after) i.good in
-    let w = both (title_length (length t) && all_characters t) (all_titles after) g.1 in
-    let v = both (title_length (length t)) (all_characters t) w.0 in
+    let w = and_parts (title_length (length t) && all_characters t) (all_titles after) g.1 in
+    let v = and_parts (title_length (length t)) (all_characters t) w.0 in
     let s : take (12 * k) run ≡ run_of before ++ take m t =
     ap (λ (r : List ℕ). take (12 * k) r) (i.packed ∙ run_append before (t ∷ after))
     ∙ ap (λ (j : ℕ). take j (run_of before ++ (t ++ 0 ∷ run_of after))) e

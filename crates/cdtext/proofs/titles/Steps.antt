@@ -1,12 +1,13 @@
 -- Counting titles: what one more byte of a run brings.
 use mathlib.Core.Path.{◌≡◌, refl, sym, ap, ◌∙◌}
 use mathlib.Core.List.{List, ◌∷◌}
+use Rattle.std.specs.Prelude.{Option, Some, None}
 use mathlib.Core.Bool.{Bool, true, false, ◌&&◌}
 use Prim.Native.Nat.{ℕ, ◌+◌, ◌≤◌, ◌<◌}
 use native.Mathlib.Omega.{arith}
 use lib.Dec.{eqb, leb}
 use lib.ListN.{length, get_or, drop, drop_of_length-le}
-use borrow.Author.Tests.{eq-eqb, ne_eqb, le-leb, lt-leb, leb-false}
+use borrow.Author.Tests.{eq-eqb, ne_eqb}
 use Rattle.basics.specs.Bytes.{if}
 use Rattle.basics.proofs.Tests.{known}
 use Rattle.basics.proofs.Lists.{drop_next}
@@ -41,32 +42,41 @@ count_next : (run : List ℕ) (i : ℕ) → i < length run → title_count (drop
 unfolding title_count
 count_next run i h = ap title_count (drop_next run i h)
 
-after_under : (b : Bool) (c : ℕ) → if b 0 (c + 1) ≤ c + 1
-after_under true c = omega arith
-after_under false c = omega arith
-
--- one more byte that may stand there
-pub next : (run : List ℕ) (n c i e d : ℕ) → Counting run n c i → i < length run → may c (get_or run i 0) ≡ true → e ≡ if (eqb (get_or run i 0) 0) 1 0 → e ≤ 1 → d ≡ after c (get_or run i 0) → Counting run (n + e) d (i + 1)
-next run n c i e d v h m ee el ed =
+-- one more character
+pub more : (run : List ℕ) (n c i : ℕ) → Counting run n c i → i < length run → may c (get_or run i 0) ≡ true → (get_or run i 0 ≡ 0 → ⊥) → Counting run n (c + 1) (i + 1)
+more run n c i v h m z =
+    let e = ne_eqb (get_or run i 0) 0 z in
     record {
       reach = omega arith;
       titles = let t = v.titles in omega arith;
-      characters = let t = v.characters in omega (arith, after_under (eqb (get_or run i 0) 0) c);
-      goes = ap (λ (k : ℕ). titles_from k (drop (i + 1) run)) ed ∙ sym (from_next c run i h ∙ ap (λ (b : Bool). b && titles_from (after c (get_or run i 0)) (drop (i + 1) run)) m) ∙ v.goes;
-      counts = let t = v.counts in omega (arith, count_next run i h);
+      characters = let t = v.characters in omega arith;
+      goes = sym (from_next c run i h ∙ rw (m, e)) ∙ v.goes;
+      counts = let t = v.counts in let q = count_next run i h in omega (arith, rw e at q);
+    }
+
+-- a zero that ends a title
+pub ends : (run : List ℕ) (n c i : ℕ) → Counting run n c i → i < length run → may c (get_or run i 0) ≡ true → get_or run i 0 ≡ 0 → Counting run (n + 1) 0 (i + 1)
+ends run n c i v h m z =
+    let e = eq-eqb (get_or run i 0) 0 z in
+    record {
+      reach = omega arith;
+      titles = let t = v.titles in omega arith;
+      characters = omega arith;
+      goes = sym (from_next c run i h ∙ rw (m, e)) ∙ v.goes;
+      counts = let t = v.counts in let q = count_next run i h in omega (arith, rw e at q);
     }
 
 -- ---- the answer
 
-abbrev pub found : List ℕ → ℕ
-found run = if (allowed run) (title_count run) 0
+abbrev pub found : List ℕ → Option ℕ
+found run = if (allowed run) (Some (title_count run)) None
 
-not_from : (run : List ℕ) → titles_from 0 run ≡ false → 0 ≡ found run
+not_from : (run : List ℕ) → titles_from 0 run ≡ false → None ≡ found run
 unfolding allowed
 not_from run e = rw e
 
 -- a byte that may not stand there
-pub stopped : (run : List ℕ) (n c i : ℕ) → Counting run n c i → i < length run → may c (get_or run i 0) ≡ false → 0 ≡ found run
+pub stopped : (run : List ℕ) (n c i : ℕ) → Counting run n c i → i < length run → may c (get_or run i 0) ≡ false → None ≡ found run
 stopped run n c i v h m =
     not_from run (sym v.goes ∙ from_next c run i h ∙ ap (λ (b : Bool). b && titles_from (after c (get_or run i 0)) (drop (i + 1) run)) m)
 
@@ -79,26 +89,11 @@ unfolding title_count
 count_end run n c i v h = let t = v.counts in omega (arith, ap title_count (drop_of_length-le run h))
 
 -- a title without its zero
-pub unended : (run : List ℕ) (n c i : ℕ) → Counting run n c i → length run ≤ i → (c ≡ 0 → ⊥) → 0 ≡ found run
+pub unended : (run : List ℕ) (n c i : ℕ) → Counting run n c i → length run ≤ i → (c ≡ 0 → ⊥) → None ≡ found run
 unended run n c i v h k = not_from run (from_end run n c i v h ∙ ne_eqb c 0 k)
 
--- too many titles
-pub many : (run : List ℕ) (n c i : ℕ) → Counting run n c i → length run ≤ i → c ≡ 0 → most_titles < n → 0 ≡ found run
+-- all titles are ended: they are no title, or too many, or allowed
+pub ended : (run : List ℕ) (n c i : ℕ) → Counting run n c i → length run ≤ i → c ≡ 0 → if (leb 1 n && leb n most_titles) (Some n) None ≡ found run
 unfolding allowed
-many run n c i v h k m =
-    let e = count_end run n c i v h in
-    rw (from_end run n c i v h, eq-eqb c 0 k, lt-leb (title_count run) most_titles (omega arith)) (none (leb 1 (title_count run)))
-  where
-    none : (b : Bool) → 0 ≡ if (b && false) (title_count run) 0
-    none true = refl
-    none false = refl
-
--- all is well, but for a run of no title
-pub ended : (run : List ℕ) (n c i : ℕ) → Counting run n c i → length run ≤ i → c ≡ 0 → n ≤ most_titles → n ≡ found run
-unfolding allowed
-ended run n c i v h k m =
-    let e = count_end run n c i v h in
-    rw (from_end run n c i v h, eq-eqb c 0 k, le-leb (title_count run) most_titles (omega arith), e) (some (title_count run))
-  where
-    some : (t : ℕ) → t ≡ if (leb 1 t && true) t 0
-    some t = known (leb 1 t) (λ e. rw e) (λ e. let z : t ≡ 0 = omega (arith, leb-false 1 t e) in rw (e, z))
+ended run n c i v h k =
+    rw (from_end run n c i v h, eq-eqb c 0 k, count_end run n c i v h)

@@ -1,23 +1,16 @@
-use Prim.Native.Nat.{◌-◌}
-use native.Mathlib.Omega.{arith}
-use lib.ListN.{length}
-use borrow.Author.Rules.{rules}
-use Rattle.packs.proofs.Steps.{three_there, whole_answer}
+use mathlib.Core.Path.{refl, ap, ◌∙◌}
+use mathlib.Core.List.{List, ◌++◌}
+use Prim.Native.Nat.{ℕ, ◌-◌}
+use lib.ListN.{length, drop}
+use borrow.Rule.Slice.PartMut.{put_mid}
+use Rattle.packs.specs.Answers.{bytes_of}
+use Rattle.packs.specs.Requests.{number_of}
+use Rattle.packs.proofs.Steps.{whole_answer}
 use Rattle.packs.proofs.put_answer.Goals as goal
-
-pub bounds-out-1 : goal.bounds-out-1
-bounds-out-1 c =
-    let xs = c.args.out.now in
-    let t = three_there xs c.done-head.new.lent (length xs - 3) 1 c.requires.2 (omega arith) in
-    search (rules, t)
-
-pub bounds-out-2 : goal.bounds-out-2
-bounds-out-2 c =
-    let xs = c.args.out.now in
-    let t = three_there xs c.done-head.new.lent (length xs - 3) 2 c.requires.2 (omega arith) in
-    search (rules, t)
 
 pub returns : goal.returns
 returns c =
     let a = c.args in
-    whole_answer a.out.now c.done-head.new.lent a.payload.now (length a.out.now - 3) a.operation c.done-head.result c.requires.2 (omega arith) c.done-head.ensures
+    let o = c.done-outcome in
+    ap (λ (h : List ℕ). h ++ drop 3 (put_mid 3 (length a.out.now - 3) a.out.now o.new.lent)) (c.copy_from_slice.ensures.after ∙ c.head_of.ensures)
+    ∙ whole_answer a.out.now o.new.lent a.payload.now (bytes_of o.result) (length a.out.now - 3) (number_of a.operation) c.requires.0 refl o.ensures

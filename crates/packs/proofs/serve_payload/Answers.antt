@@ -1,19 +1,27 @@
-use lib.ListN.{take}
-use Rattle.packs.proofs.Heads.{neither, five, whole, unlike}
+use mathlib.Core.Path.{sym}
+use native.Mathlib.Omega.{arith}
+use Prim.Native.Nat.{◌+◌}
+use lib.Seq.{length-take-le}
+use Rattle.std.proofs.lemmas.Bool.{both_ways}
+use Rattle.packs.proofs.Heads.{limits, whole, unlike}
 use Rattle.packs.proofs.serve_payload.Goals as goal
 
-pub request_of-request-requires : goal.request_of-request-requires
-request_of-request-requires c =
-    five c.args.head.now c.requires.0
-
 pub stop-requires : goal.stop-requires
-stop-requires c =
-    unlike c.args.head.now _ c.request_of-request.result c.requires.0 c.request_of-request.ensures c.if-payload-request.true
+stop-requires c = unlike _ _ c.args.request c.requires c.if-payload-request.true
 
-pub answer-requires : goal.answer-requires
-answer-requires c =
-    (whole c.args.head.now _ c.request_of-request.result c.requires.0 c.request_of-request.ensures c.if-payload-request.false, c.requires.2)
+pub overflow_add-request : goal.overflow_add-request
+overflow_add-request c = omega (arith, (limits _ _ c.requires).0)
+
+pub slice_bounds-reply-end : goal.slice_bounds-reply-end
+slice_bounds-reply-end c = omega (arith, (limits _ _ c.requires).0)
+
+pub slice_bounds-reply-end-2 : goal.slice_bounds-reply-end-2
+slice_bounds-reply-end-2 c =
+    sym (length-take-le (3 + c.args.request.room) c.args.out.now (omega (arith, (limits _ _ c.requires).0)))
+
+pub reply-requires : goal.reply-requires
+reply-requires c =
+    (c.requires, whole _ _ c.args.request c.requires c.if-payload-request.false, length-take-le (3 + c.args.request.room) c.args.out.now (omega (arith, (limits _ _ c.requires).0)))
 
 pub returns : goal.returns
-returns c e =
-    absurd (neither _ (whole c.args.head.now (take c.args.got c.args.space.now) c.request_of-request.result c.requires.0 c.request_of-request.ensures c.if-payload-request.false) e)
+returns c e = absurd (both_ways _ e (whole _ _ c.args.request c.requires c.if-payload-request.false))

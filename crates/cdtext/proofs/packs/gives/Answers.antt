@@ -1,39 +1,23 @@
-use mathlib.Core.Bool.{true}
-use mathlib.Core.Path.{◌≡◌, ◌∙◌}
-use Rattle.cdtext.specs.Titles.{allowed, title_count}
-use Rattle.cdtext.proofs.packs.Making.{counted, none, too_many, passed, other_length, bears}
+use mathlib.Core.Path.{sym, ◌∙◌}
+use Prim.Native.Nat.{◌*◌}
+use lib.Seq.{length-take-le}
+use native.Mathlib.Omega.{arith}
+use Rattle.cdtext.proofs.packs.Making.{made_fit, made_are, none_are}
 use Rattle.cdtext.proofs.packs.gives.Goals as goal
 
-pub returns-then-titles-eq0 : goal.returns-then-titles-eq0
-returns-then-titles-eq0 c =
-    let a = c.args in
-    rw (none a.run.now c.count_titles-titles.result c.count_titles-titles.ensures c.if-titles-eq0.true)
+pub overflow_mul-packs : goal.overflow_mul-packs
+overflow_mul-packs c = omega (arith, made_fit _ _ _ _ c.in-Ok.ensures.0.filled)
 
-pub returns-then-run-gt-LONGEST_RUN : goal.returns-then-run-gt-LONGEST_RUN
-returns-then-run-gt-LONGEST_RUN c =
-    let good : (allowed c.args.run.now ≡ true) × (c.count_titles-titles.result ≡ title_count c.args.run.now) = counted _ c.count_titles-titles.result c.count_titles-titles.ensures c.if-titles-eq0.false in
-    let a = c.args in
-    let run = a.run.now in
-    let w = good in
-    rw (too_many run w.0 c.if-run-gt-LONGEST_RUN.true)
+pub slice_bounds-packs-end : goal.slice_bounds-packs-end
+slice_bounds-packs-end c = omega (arith, made_fit _ _ _ _ c.in-Ok.ensures.0.filled, c.make_packs.auto.out)
 
-pub returns-then-b-n : goal.returns-then-b-n
-returns-then-b-n c =
-    let good : (allowed c.args.run.now ≡ true) × (c.count_titles-titles.result ≡ title_count c.args.run.now) = counted _ c.count_titles-titles.result c.count_titles-titles.ensures c.if-titles-eq0.false in
-    let a = c.args in
-    let run = a.run.now in
-    let w = good in
-    other_length run a.b.now (passed run w.0 c.if-run-gt-LONGEST_RUN.false) (λ h. c.if-b-n.true (h ∙ rw c.packs_for-n.ensures))
+pub slice_bounds-same-end : goal.slice_bounds-same-end
+slice_bounds-same-end c = sym (length-take-le (18 * c.in-Ok.n) c.make_packs.new.out (omega (arith, made_fit _ _ _ _ c.in-Ok.ensures.0.filled, c.make_packs.auto.out)))
 
-pub are_packs-requires : goal.are_packs-requires
-are_packs-requires c =
-    let good : (allowed c.args.run.now ≡ true) × (c.count_titles-titles.result ≡ title_count c.args.run.now) = counted _ c.count_titles-titles.result c.count_titles-titles.ensures c.if-titles-eq0.false in
-    let a = c.args in
-    let w = good in
-    (bears a.run.now a.b.now c.packs_for-n.result w.0 c.if-run-gt-LONGEST_RUN.false c.packs_for-n.ensures c.if-b-n.false c.requires.1, w.1)
+pub returns-in-Ok : goal.returns-in-Ok
+returns-in-Ok c = c.same.ensures ∙ made_are c.args.run.now c.args.b.now _ c.make_packs.new.out c.in-Ok.n c.in-Ok.ensures.0.filled
 
-pub returns : goal.returns
-returns c =
-    let good : (allowed c.args.run.now ≡ true) × (c.count_titles-titles.result ≡ title_count c.args.run.now) = counted _ c.count_titles-titles.result c.count_titles-titles.ensures c.if-titles-eq0.false in
-    let run = c.args.run.now in
-    c.are_packs.ensures ∙ rw (passed run good.0 c.if-run-gt-LONGEST_RUN.false)
+pub returns-in-Err : goal.returns-in-Err
+returns-in-Err c =
+    let e = c.in-Err.ensures.0 in
+    none_are c.args.run.now c.args.b.now _ c.make_packs.new.out c.in-Err.field-0 e.filled (λ p h. omega (arith, e.few p h))

@@ -1,12 +1,9 @@
-use Rattle.cdtext.proofs.packs.Sealing.{unsealed_long, pack_is}
+use mathlib.Core.Path.{◌∙◌}
+use native.Mathlib.Omega.{arith}
+use Rattle.cdtext.proofs.packs.Sealing.{pack_is}
 use Rattle.cdtext.proofs.packs.pack_of.Goals as goal
-
-pub slice_bounds-check_by-end : goal.slice_bounds-check_by-end
-slice_bounds-check_by-end c =
-    let a = c.args in
-    unsealed_long a.sort a.track a.number a.position c.fill.new.out c.fill.auto.out
 
 pub returns : goal.returns
 returns c =
     let a = c.args in
-    pack_is a.sort a.track a.number a.position a.text.now c.fill.new.out c.check_by-check.result c.requires.1 c.fill.ensures.buffer c.check_by-check.ensures
+    pack_is a.sort a.track a.number a.position a.text.now c.copy_from_slice.new.self c.copy_from_slice-2.new.self c.copy_from_slice-3.new.self _ c.check_of-check.result c.requires c.copy_from_slice.ensures.after (omega arith) c.copy_from_slice-2.ensures.after c.check_of-check.ensures (omega arith) (c.copy_from_slice-3.ensures.after ∙ c.to_be_bytes.ensures)

@@ -1,13 +1,16 @@
-use mathlib.Core.Path.{ap, ◌∙◌}
-use lib.ListN.{length}
-use Rattle.cdtext.proofs.packs.Steps.{put_three}
-use Rattle.cdtext.proofs.packs.Texts.{size_length}
+use native.Mathlib.Omega.{arith}
+use Rattle.cdtext.proofs.packs.Texts.{no_sizes, more_sizes, all_sizes}
 use Rattle.cdtext.proofs.packs.put_sizes.Goals as goal
+
+pub loop-i-init : goal.loop-i-init
+loop-i-init c = no_sizes c.size_record-sizes.result c.args.out.now c.args.n
+
+pub loop-i-preserved : goal.loop-i-preserved
+loop-i-preserved c =
+    let v = c.loop-i in
+    more_sizes c.size_record-sizes.result c.args.out.now v.out c.put_pack.new.out c.size_pack.result c.args.n v.i v.invariant c.size_pack.ensures c.put_pack.ensures
 
 pub returns : goal.returns
 returns c =
-    let g = c.size_record-sizes in
-    let a = c.args in
-    let n = a.n in
-    put_three a.out.now c.size_pack.result c.size_pack-2.result c.size_pack-3.result c.put_pack.new.out c.put_pack-2.new.out c.put_pack-3.new.out (ap length c.size_pack.ensures ∙ size_length g.result n 0) (ap length c.size_pack-2.ensures ∙ size_length g.result n 1) c.put_pack.ensures c.put_pack-2.ensures c.put_pack-3.ensures
-    ∙ rw (c.size_pack.ensures, c.size_pack-2.ensures, c.size_pack-3.ensures, g.ensures)
+    let v = c.loop-i in
+    all_sizes c.size_record-sizes.result _ c.args.out.now v.out c.args.n v.i (omega arith) (omega arith) c.size_record-sizes.ensures v.invariant

@@ -1,9 +1,0 @@
-use native.Mathlib.Omega.{arith}
-use borrow.Author.Tests.{eq-eqb, ne_eqb}
-use Rattle.cdtext.proofs.titles.titles_ended.Goals as goal
-
-pub returns-then-x-eq0 : goal.returns-then-x-eq0
-returns-then-x-eq0 c = (simp (eq-eqb _ _ c.if-x-eq0.true), omega arith)
-
-pub returns-else-x-eq0 : goal.returns-else-x-eq0
-returns-else-x-eq0 c = (simp (ne_eqb _ _ c.if-x-eq0.false), omega arith)
