@@ -1,4 +1,5 @@
 mod Laws
 mod Hex
 mod Decimal
+mod Lines
 mod Bench

@@ -6,29 +6,28 @@ ghost use Rattle.std.specs.Prelude.{◌≡◌, ◌+◌, ◌*◌, ◌/◌, ◌%�
 ghost use Rattle.ascii.specs.Text.{digit, parted, decimal, Adds};
 ghost use Rattle.ascii.specs.Bench.{ExampleCodes};
 
-use mmc::bytes::fill;
+pub mod line;
+
+use itoa::Buffer;
 
 // Writes a text.
 pub fn add(out: &mut [u8], at: usize, text: &[u8]) -> usize
     ensures { Adds text.now at out.old result out.new }
 {
-    if out.len() < at {
+    if out.len() < at || out.len() - at < text.len() {
         return at;
     }
-    if out.len() - at < text.len() {
-        return at;
-    }
-    fill(text, &mut out[at..]);
-    at + text.len()
+    let end = at + text.len();
+    out[at..end].copy_from_slice(text);
+    end
 }
 
 // Writes a number in decimal, which has at most 20 digits.
 pub fn add_decimal(out: &mut [u8], at: usize, n: u64) -> usize
     ensures { (Adds (decimal n) at out.old result out.new) × (length (decimal n) ≤ 20) }
 {
-    let mut digits = [0u8; 20];
-    let k = io::decimal(n, &mut digits);
-    add(out, at, &digits[0..k])
+    let mut digits = Buffer::new();
+    add(out, at, digits.format(n).as_bytes())
 }
 
 // The code of a hex digit.
@@ -53,19 +52,16 @@ fn put_hex(out: &mut [u8], at: usize, bytes: &[u8]) -> usize
     requires { at + 3 * length bytes.now ≤ length out.old + 1 }
     ensures { Adds (parted bytes.now) at out.old result out.new }
 {
-    if bytes.len() == 0 {
+    let Some((last, before)) = bytes.split_last() else {
         return at;
-    }
-    let last = bytes.len() - 1;
+    };
     let mut end = at;
-    let mut i: usize = 0;
-    while i < last {
-        put_byte(out, end, bytes[i]);
+    for byte in before {
+        put_byte(out, end, *byte);
         out[end + 2] = b' ';
-        end = end + 3;
-        i = i + 1;
+        end += 3;
     }
-    put_byte(out, end, bytes[last]);
+    put_byte(out, end, *last);
     end + 2
 }
 
@@ -79,7 +75,7 @@ pub fn add_hex(out: &mut [u8], at: usize, bytes: &[u8]) -> usize
     }
     // n bytes take 3 n - 1 codes
     let room = out.len() - at;
-    if room / 3 + room % 3 / 2 < bytes.len() {
+    if (room + 1) / 3 < bytes.len() {
         return at;
     }
     put_hex(out, at, bytes)

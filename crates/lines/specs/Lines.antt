@@ -1,7 +1,7 @@
 -- The lines of the print program. Each ends in one line feed.
-use Rattle.std.specs.Prelude.{List, [], ◌∷◌, ◌++◌, ℕ, ◌≤◌, length}
+use Rattle.std.specs.Prelude.{List, [], ◌∷◌, ◌++◌, ℕ, ◌≤◌, Result, length}
 use Rattle.mmc.specs.Refusals.{pass, Fills}
-use Rattle.mmc.specs.declared.refusals.Made.{Made}
+use Rattle.mmc.specs.declared.refusals.Refusal.{Refusal}
 use Rattle.recorder.specs.Answers.{because, drive_failed, Ruling, issue, done, stop, bytes_in}
 use Rattle.recorder.specs.declared.answers.Cdb.{Cdb}
 use Rattle.recorder.specs.declared.replies.Sense.{Sense}
@@ -44,6 +44,6 @@ abbrev pub longest : ℕ
 longest = 64
 
 -- what the makers promise: of a line, the answer, and the lent buffer before and after; 11 where it is too short, and how long a line can be
-pub record Writes (most : ℕ) (line : List ℕ) (r : Made) (before after : List ℕ) : Type 0 where
+pub record Writes (most : ℕ) (line : List ℕ) (r : Result ℕ Refusal) (before after : List ℕ) : Type 0 where
   pub filled : Fills (pass line) r before after
   pub short : length line ≤ most

@@ -1,233 +1,262 @@
 // The lines that the panel program writes: what the panel shows of a recorder, in words.
-ghost use Rattle.std.specs.Prelude.{◌+◌, ◌≤◌, ◌++◌, length};
+ghost use Rattle.std.specs.Prelude.{◌≡◌, ◌+◌, ◌≤◌, ◌++◌, length, unwrap_or};
 ghost use Rattle.mmc.specs.Refusals.{number_of};
 ghost use Rattle.recorder.specs.Replies.{no_sense};
 ghost use Rattle.ascii.specs.Text.{codes};
-ghost use Rattle.lines.specs.Text.{Behind};
 ghost use Rattle.lines.specs.Lines.{Writes};
-ghost use Rattle.lines.specs.Shown.{pair, of_tracks, in_piece, how_far, percent, command_text, busy_line, idle_line, finished_line, waiting_shown, failure, words_of, reason, stopped_line, shown_with, shown_line, widest};
+ghost use Rattle.lines.specs.Shown.{pair, of_tracks, in_piece, how_far, percent, command_text, busy_line, idle_line, finished_line, waiting_shown, failure, words_of, stopped_line, shown_with, shown_line, widest};
 ghost use Rattle.lines.specs.Bench.{ExampleShown};
 
-use crate::text::{add, add_decimal, add_hex};
 use crate::{WIDEST, counted_line};
+use ascii::line::Line;
 use mmc::bytes::fill;
-use mmc::refusals::{Made, Refusal, number};
+use mmc::refusals::Refusal;
 use panel::display::{Panel, panel_of, progress_of};
-use recorder::job::{Recorder, due_at};
+use recorder::job::Recorder;
 use recorder::places::piece_length;
 use recorder::replies::Sense;
 use recorder::script::{Op, track_of};
 
 // Writes two numbers, each behind its words.
-fn add_pair(line: &mut [u8], at: usize, before: &[u8], x: u64, between: &[u8], y: u64) -> usize
-    requires { at + length before.now + length between.now + 40 ≤ length line.old }
-    ensures { (Behind (pair before.now x between.now y) at line.old result line.new) × (result ≤ at + length before.now + length between.now + 40) }
+#[tactic(auto, unfolding(crate::specs::Shown::pair))]
+fn push_pair(line: &mut Line<WIDEST>, before: &[u8], x: u64, between: &[u8], y: u64)
+    requires { length line.old + length before.now + length between.now + 40 ≤ widest }
+    ensures text { line.new ≡ line.old ++ pair before.now x between.now y }
+    ensures short { length line.new ≤ length line.old + length before.now + length between.now + 40 }
 {
-    let a = add(line, at, before);
-    let b = add_decimal(line, a, x);
-    let c = add(line, b, between);
-    add_decimal(line, c, y)
+    line.push(before);
+    line.push_decimal(x);
+    line.push(between);
+    line.push_decimal(y);
 }
 
-// Writes a command and its track of so many.
-fn add_track(line: &mut [u8], at: usize, name: &[u8], track: u16, tracks: u8) -> usize
-    requires { at + length name.now + 52 ≤ length line.old }
-    ensures { (Behind (name.now ++ of_tracks track tracks) at line.old result line.new) × (result ≤ at + length name.now + 52) }
-{
-    let a = add(line, at, name);
-    add_pair(line, a, b", track ", track as u64, b" of ", tracks as u64)
+// A command that waits for its reply, in a job of so many tracks. The piece of a WRITE has so many blocks; the progress is the latest of a
+// polling.
+#[derive(Clone, Copy)]
+struct Busy {
+    op: Op,
+    tracks: u8,
+    blocks: u32,
+    progress: u16,
 }
 
-// Writes where a WRITE is: in the pause, or in a track of so many.
-fn add_piece(line: &mut [u8], at: usize, track: u16, tracks: u8) -> usize
-    requires { at + 57 ≤ length line.old }
-    ensures { (Behind (codes "WRITE" ++ in_piece track tracks) at line.old result line.new) × (result ≤ at + 57) }
-{
-    if track == 0 {
-        return add(line, at, b"WRITE, pause");
+impl Busy {
+    // Writes a command and its track of so many.
+    fn push_track(&self, line: &mut Line<WIDEST>, name: &[u8], track: u16)
+        requires { length line.old + length name.now + 52 ≤ widest }
+        ensures text { line.new ≡ line.old ++ (name.now ++ of_tracks track self.now.tracks) }
+        ensures short { length line.new ≤ length line.old + length name.now + 52 }
+    {
+        line.push(name);
+        push_pair(
+            line,
+            b", track ",
+            u64::from(track),
+            b" of ",
+            u64::from(self.tracks),
+        );
     }
-    add_track(line, at, b"WRITE", track, tracks)
-}
 
-// Writes a WRITE from a block of its piece on, which has so many.
-fn add_write(line: &mut [u8], at: usize, track: u16, tracks: u8, first: u32, blocks: u32) -> usize
-    requires { at + 110 ≤ length line.old }
-    ensures { (Behind (codes "WRITE" ++ in_piece track tracks ++ how_far first blocks) at line.old result line.new) × (result ≤ at + 110) }
-{
-    let a = add_piece(line, at, track, tracks);
-    let b = add_pair(line, a, b", ", first as u64, b" of ", blocks as u64);
-    add(line, b, b" blocks")
-}
-
-// Writes a command and a progress as a percentage.
-fn add_percent(line: &mut [u8], at: usize, name: &[u8], progress: u16) -> usize
-    requires { at + length name.now + 45 ≤ length line.old }
-    ensures { (Behind (name.now ++ percent progress) at line.old result line.new) × (result ≤ at + length name.now + 45) }
-{
-    let tenths = progress as u64 * 1000 / 65536;
-    let a = add(line, at, name);
-    let b = add_pair(line, a, b", ", tenths / 10, b".", tenths % 10);
-    add(line, b, b" %")
-}
-
-// Writes a command and what follows its name.
-fn add_command(line: &mut [u8], at: usize, op: Op, tracks: u8, blocks: u32, progress: u16) -> usize
-    requires { at + 110 ≤ length line.old }
-    ensures { (Behind (command_text op tracks blocks progress) at line.old result line.new) × (result ≤ at + 110) }
-{
-    match op {
-        Op::GetConfiguration => add(line, at, b"GET CONFIGURATION"),
-        Op::ReadDiscInformation => add(line, at, b"READ DISC INFORMATION"),
-        Op::ReadTrackInformation(t) => add_track(line, at, b"READ TRACK INFORMATION", t.0, tracks),
-        Op::ModeSelect(t) => add_track(line, at, b"MODE SELECT", t.0, tracks),
-        Op::SendCueSheet => add(line, at, b"SEND CUE SHEET"),
-        Op::Write {
-            track,
-            first,
-            count: _,
-        } => add_write(line, at, track.0, tracks, first.0, blocks),
-        Op::SynchronizeCache(t) => add_track(line, at, b"SYNCHRONIZE CACHE", t.0, tracks),
-        Op::CloseTrack(t) => add_track(line, at, b"CLOSE TRACK SESSION", t.0, tracks),
-        Op::CloseSession => add(line, at, b"CLOSE TRACK SESSION, session"),
-        Op::Blank => add(line, at, b"BLANK"),
-        Op::TestUnitReady => add_percent(line, at, b"TEST UNIT READY", progress),
-        Op::RequestSense => add_percent(line, at, b"REQUEST SENSE", progress),
+    // Writes where a WRITE is: in the pause, or in a track of so many.
+    fn push_piece(&self, line: &mut Line<WIDEST>, track: u16)
+        requires { length line.old + 57 ≤ widest }
+        ensures text { line.new ≡ line.old ++ (codes "WRITE" ++ in_piece track self.now.tracks) }
+        ensures short { length line.new ≤ length line.old + 57 }
+    {
+        if track == 0 {
+            line.push(b"WRITE, pause");
+        } else {
+            self.push_track(line, b"WRITE", track);
+        }
     }
-}
 
-// The line of a command that waits for its reply, in a job of so many tracks. The piece of a WRITE has so many blocks; the progress is the
-// latest of a polling.
-fn busy_line(op: Op, tracks: u8, blocks: u32, progress: u16, out: &mut [u8]) -> Made
-    ensures { Writes widest (busy_line op tracks blocks progress) result out.old out.new }
-{
-    let mut line = [0u8; WIDEST];
-    let a = add(&mut line, 0, b"busy: ");
-    let b = add_command(&mut line, a, op, tracks, blocks, progress);
-    let end = add(&mut line, b, b"\n");
-    fill(&line[0..end], out)
+    // Writes a WRITE from a block of its piece on, which has so many.
+    #[tactic(auto, unfolding(ascii::specs::Text::codes, crate::specs::Shown::how_far))]
+    fn push_write(&self, line: &mut Line<WIDEST>, track: u16, first: u32)
+        requires { length line.old + 110 ≤ widest }
+        ensures text { line.new ≡ line.old ++ (codes "WRITE" ++ in_piece track self.now.tracks ++ how_far first self.now.blocks) }
+        ensures short { length line.new ≤ length line.old + 110 }
+    {
+        self.push_piece(line, track);
+        push_pair(
+            line,
+            b", ",
+            u64::from(first),
+            b" of ",
+            u64::from(self.blocks),
+        );
+        line.push(b" blocks");
+    }
+
+    // Writes a command and the progress as a percentage.
+    #[tactic(auto, unfolding(ascii::specs::Text::codes, crate::specs::Shown::percent))]
+    fn push_percent(&self, line: &mut Line<WIDEST>, name: &[u8])
+        requires { length line.old + length name.now + 45 ≤ widest }
+        ensures text { line.new ≡ line.old ++ (name.now ++ percent self.now.progress) }
+        ensures short { length line.new ≤ length line.old + length name.now + 45 }
+    {
+        let tenths = u64::from(self.progress) * 1000 / 65536;
+        line.push(name);
+        push_pair(line, b", ", tenths / 10, b".", tenths % 10);
+        line.push(b" %");
+    }
+
+    // Writes a command and what follows its name.
+    fn push_command(&self, line: &mut Line<WIDEST>)
+        requires { length line.old + 110 ≤ widest }
+        ensures text { line.new ≡ line.old ++ command_text self.now.op self.now.tracks self.now.blocks self.now.progress }
+        ensures short { length line.new ≤ length line.old + 110 }
+    {
+        match self.op {
+            Op::GetConfiguration => line.push(b"GET CONFIGURATION"),
+            Op::ReadDiscInformation => line.push(b"READ DISC INFORMATION"),
+            Op::ReadTrackInformation(track) => self.push_track(
+                line,
+                b"READ TRACK INFORMATION",
+                track.0,
+            ),
+            Op::ModeSelect(track) => self.push_track(line, b"MODE SELECT", track.0),
+            Op::SendCueSheet => line.push(b"SEND CUE SHEET"),
+            Op::Write { track, first, .. } => self.push_write(line, track.0, first.0),
+            Op::SynchronizeCache(track) => self.push_track(line, b"SYNCHRONIZE CACHE", track.0),
+            Op::CloseTrack(track) => self.push_track(line, b"CLOSE TRACK SESSION", track.0),
+            Op::CloseSession => line.push(b"CLOSE TRACK SESSION, session"),
+            Op::Blank => line.push(b"BLANK"),
+            Op::TestUnitReady => self.push_percent(line, b"TEST UNIT READY"),
+            Op::RequestSense => self.push_percent(line, b"REQUEST SENSE"),
+        }
+    }
+
+    // The line of a command that waits for its reply.
+    #[tactic(auto, unfolding(ascii::specs::Text::codes, crate::specs::Shown::busy_line))]
+    fn line(&self, out: &mut [u8]) -> Result<usize, Refusal>
+        ensures { Writes widest (busy_line self.now.op self.now.tracks self.now.blocks self.now.progress) result out.old out.new }
+    {
+        let mut line = Line::new();
+        line.push(b"busy: ");
+        self.push_command(&mut line);
+        line.push(b"\n");
+        fill(line.as_bytes(), out)
+    }
 }
 
 // The line before any order.
-fn idle_line(out: &mut [u8]) -> Made
+#[tactic(auto, unfolding(ascii::specs::Text::codes, crate::specs::Shown::idle_line))]
+fn idle_line(out: &mut [u8]) -> Result<usize, Refusal>
     ensures { Writes widest idle_line result out.old out.new }
 {
     fill(b"idle\n", out)
 }
 
 // The line of a job that is done.
-fn finished_line(count: u64, out: &mut [u8]) -> Made
+#[tactic(auto, unfolding(ascii::specs::Text::codes, crate::specs::Shown::finished_line))]
+fn finished_line(count: u64, out: &mut [u8]) -> Result<usize, Refusal>
     ensures { Writes widest (finished_line count) result out.old out.new }
 {
     counted_line(b"finished, commands given: ", count, out)
 }
 
 // The line where replies run out. Its contract also keeps the example lines, which hold of the definitions that the makers meet.
-pub fn waiting_line(count: u64, out: &mut [u8]) -> Made
+pub fn waiting_line(count: u64, out: &mut [u8]) -> Result<usize, Refusal>
     ensures { (Writes widest (waiting_shown count) result out.old out.new) × ExampleShown }
 {
     counted_line(b"waiting, commands given: ", count, out)
 }
 
 // Writes the triple of 12.
-fn add_triple(line: &mut [u8], at: usize, sense: Sense) -> usize
-    requires { at + 27 ≤ length line.old }
-    ensures { (Behind (failure sense) at line.old result line.new) × (result ≤ at + 27) }
+#[tactic(auto, unfolding(ascii::specs::Text::codes, crate::specs::Shown::failure))]
+fn push_triple(line: &mut Line<WIDEST>, sense: Sense)
+    requires { length line.old + 27 ≤ widest }
+    ensures text { line.new ≡ line.old ++ failure sense }
+    ensures short { length line.new ≤ length line.old + 27 }
 {
-    let triple = [sense.key, sense.asc, sense.ascq];
-    let a = add(line, at, b"drive failed with ");
-    add_hex(line, a, &triple)
+    line.push(b"drive failed with ");
+    line.push_hex(&[sense.key, sense.asc, sense.ascq]);
 }
 
 // Writes the words of a number, of 12 with the triple.
-fn add_words(line: &mut [u8], at: usize, number: u8, sense: Sense) -> usize
-    requires { at + 49 ≤ length line.old }
-    ensures { (Behind (words_of number sense) at line.old result line.new) × (result ≤ at + 49) }
+#[tactic(auto, unfolding(ascii::specs::Text::codes, crate::specs::Shown::words_of))]
+fn push_words(line: &mut Line<WIDEST>, number: u8, sense: Sense)
+    requires { length line.old + 49 ≤ widest }
+    ensures text { line.new ≡ line.old ++ words_of number sense }
+    ensures short { length line.new ≤ length line.old + 49 }
 {
     match number {
-        1 => add(line, at, b"block not of 512 bytes"),
-        2 => add(line, at, b"block check differs"),
-        3 => add(line, at, b"field value not allowed"),
-        4 => add(line, at, b"reply too short or of another type"),
-        5 => add(line, at, b"neither CD-R nor CD-RW"),
-        6 => add(line, at, b"disc status unsuitable"),
-        7 => add(line, at, b"track information unusable"),
-        8 => add(
-            line,
-            at,
-            b"session at once of mixed kinds or kept appendable",
-        ),
-        9 => add(line, at, b"track of fewer than 300 blocks"),
-        10 => add(line, at, b"does not fit"),
-        11 => add(line, at, b"lent buffer too short"),
-        12 => add_triple(line, at, sense),
-        13 => add(line, at, b"job already ended"),
-        14 => add(line, at, b"no cue sheet"),
-        16 => add(line, at, b"disc cannot be erased"),
-        24 => add(line, at, b"track at once with an audio track"),
-        _ => add(line, at, b"number out of range"),
+        1 => line.push(b"block not of 512 bytes"),
+        2 => line.push(b"block check differs"),
+        3 => line.push(b"field value not allowed"),
+        4 => line.push(b"reply too short or of another type"),
+        5 => line.push(b"neither CD-R nor CD-RW"),
+        6 => line.push(b"disc status unsuitable"),
+        7 => line.push(b"track information unusable"),
+        8 => line.push(b"session at once of mixed kinds or kept appendable"),
+        9 => line.push(b"track of fewer than 300 blocks"),
+        10 => line.push(b"does not fit"),
+        11 => line.push(b"lent buffer too short"),
+        12 => push_triple(line, sense),
+        13 => line.push(b"job already ended"),
+        14 => line.push(b"no cue sheet"),
+        16 => line.push(b"disc cannot be erased"),
+        24 => line.push(b"track at once with an audio track"),
+        _ => line.push(b"number out of range"),
     }
 }
 
-// Writes why a job stopped at the start of a line.
-fn add_reason(line: &mut [u8], number: u8, sense: Sense) -> usize
-    requires { 98 ≤ length line.old }
-    ensures { (Behind (reason number sense) 0 line.old result line.new) × (result ≤ 98) }
-{
-    let a = add(line, 0, b"stopped: ");
-    let b = add_decimal(line, a, number as u64);
-    let c = add(line, b, b", ");
-    let d = add_words(line, c, number, sense);
-    add(line, d, b", commands given: ")
-}
-
-// The line of a job that stopped with a number, 12 with its triple.
-fn stopped_line(number: u8, sense: Sense, count: u64, out: &mut [u8]) -> Made
-    ensures { Writes widest (stopped_line number sense count) result out.old out.new }
-{
-    let mut line = [0u8; 98];
-    let end = add_reason(&mut line, number, sense);
-    counted_line(&line[0..end], count, out)
-}
-
-// The line of a stop by a refusal, which has no triple.
-pub fn refused_line(refusal: Refusal, count: u64, out: &mut [u8]) -> Made
-    ensures { Writes widest (stopped_line (number_of refusal) no_sense count) result out.old out.new }
+// The line of a job that stopped with a number, 12 with its triple, or with zeros where none is known.
+#[tactic(auto, unfolding(ascii::specs::Text::codes, crate::specs::Shown::reason, crate::specs::Shown::stopped_line))]
+fn stopped_line(
+    number: u8,
+    sense: Option<Sense>,
+    count: u64,
+    out: &mut [u8],
+) -> Result<usize, Refusal>
+    ensures { Writes widest (stopped_line number (unwrap_or sense no_sense) count) result out.old out.new }
 {
     let none = Sense {
         key: 0,
         asc: 0,
         ascq: 0,
     };
-    stopped_line(number(refusal), none, count, out)
+    let mut line = Line::<WIDEST>::new();
+    line.push(b"stopped: ");
+    line.push_decimal(u64::from(number));
+    line.push(b", ");
+    push_words(&mut line, number, sense.unwrap_or(none));
+    line.push(b", commands given: ");
+    counted_line(line.as_bytes(), count, out)
+}
+
+// The line of a stop by a refusal, which has no triple.
+pub fn refused_line(refusal: Refusal, count: u64, out: &mut [u8]) -> Result<usize, Refusal>
+    ensures { Writes widest (stopped_line (number_of refusal) no_sense count) result out.old out.new }
+{
+    stopped_line(u8::from(refusal), None, count, out)
 }
 
 // The line of a recorder: what its panel shows. The piece that it writes has so many blocks.
-fn shown_with(r: Recorder, blocks: u32, out: &mut [u8]) -> Made
+fn shown_with(r: Recorder, blocks: u32, out: &mut [u8]) -> Result<usize, Refusal>
     ensures { Writes widest (shown_with r blocks) result out.old out.new }
 {
-    let progress = r.progress;
-    let place = progress.place;
-    let poll = progress.poll;
-    let tracks = r.order.count;
-    let count = r.count;
-    let op = due_at(place, poll);
-    let panel = panel_of(r);
-    match panel {
+    match panel_of(r) {
         Panel::Idle => idle_line(out),
-        Panel::Busy(x) => busy_line(op, tracks, blocks, progress_of(x), out),
-        Panel::Finished => finished_line(count, out),
-        Panel::Stopped { number, sense } => stopped_line(number, sense, count, out),
+        Panel::Busy(x) => {
+            let busy = Busy {
+                op: r.progress.due(),
+                tracks: r.order.count,
+                blocks,
+                progress: progress_of(x),
+            };
+            busy.line(out)
+        }
+        Panel::Finished => finished_line(r.count, out),
+        Panel::Stopped { number, sense } => stopped_line(number, sense, r.count, out),
     }
 }
 
 // The line of a recorder: what its panel shows.
-pub fn shown_line(r: Recorder, out: &mut [u8]) -> Made
+pub fn shown_line(r: Recorder, out: &mut [u8]) -> Result<usize, Refusal>
     ensures { Writes widest (shown_line r) result out.old out.new }
 {
-    let progress = r.progress;
-    let place = progress.place;
-    let poll = progress.poll;
-    let o = r.order;
-    let track = track_of(due_at(place, poll)) as u32;
-    shown_with(r, piece_length(o, track), out)
+    let track = track_of(r.progress.due());
+    shown_with(r, piece_length(&r.order, u32::from(track)), out)
 }

@@ -8,7 +8,7 @@ use lib.Ieee.Fits.{down_pos}
 use lib.Ieee.Exact.{HasValue, round_exact}
 use lib.Ieee.Back.{round_whole, unsigned_back}
 use lib.Ieee.Scale.{round_same}
-use Rattle.panel.specs.Panel.{double, fraction_of, times, Fraction}
+use Rattle.panel.specs.Panel.{double, fraction_of, times, Fraction, ProgressBack}
 
 -- 2 ^ k
 abbrev pub power : ℕ → Float
@@ -93,3 +93,7 @@ fraction_is n h =
       times_back = back;
       as_whole = ap (to_unsigned 16) back ∙ back_whole n h;
     }
+
+-- a number that is the cast of a double times 65,536 is the progress back
+pub cast_back : (x : Float) (n : ℕ) → n ≡ to_unsigned 16 (times x) → ProgressBack x n
+cast_back x n e = record { cast = e; exactly = λ p h f. e ∙ ap (λ (z : Float). to_unsigned 16 (times z)) f ∙ (fraction_is p h).as_whole }

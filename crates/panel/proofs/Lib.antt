@@ -1,5 +1,3 @@
 pub mod Halving
-pub mod Cutting
 pub mod Shown
-pub mod Typed
 pub mod Bench

@@ -1,5 +1,5 @@
 -- Some of what the panel shows, as one statement about the definitions.
-use Rattle.std.specs.Prelude.{◌≡◌, false}
+use Rattle.std.specs.Prelude.{◌≡◌, false, Some, None}
 use Rattle.std.specs.Float.Ieee.Exact.{HasValue}
 use Rattle.recorder.specs.Job.{idle_recorder}
 use Rattle.recorder.specs.declared.job.Phase.TheVariants.{Stopped, Failed}
@@ -13,5 +13,5 @@ pub record ExamplePanels : Type 0 where
   pub half : HasValue (fraction_of 0x8000) false 1 2
   pub nearly : HasValue (fraction_of 0xFFFF) false 0xFFFF 0x10000
   -- 6 with no triple; 12 with 05h/64h/00h
-  pub refused : panel_as (shown_at (Stopped 6) 0) ≡ D.Stopped 6 (record { key = 0; asc = 0; ascq = 0 })
-  pub failed : panel_as (shown_at (Failed (record { key = 5; asc = 0x64; ascq = 0 })) 0) ≡ D.Stopped 12 (record { key = 5; asc = 0x64; ascq = 0 })
+  pub refused : panel_as (shown_at (Stopped 6) 0) ≡ D.Stopped 6 None
+  pub failed : panel_as (shown_at (Failed (record { key = 5; asc = 0x64; ascq = 0 })) 0) ≡ D.Stopped 12 (Some (record { key = 5; asc = 0x64; ascq = 0 }))

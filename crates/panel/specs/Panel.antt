@@ -1,5 +1,5 @@
 -- What the panel shows, in document 02's words: "one of four things: idle, busy with its fraction, finished, or stopped with its number."
-use Rattle.std.specs.Prelude.{◌≡◌, ℕ, ◌<◌, true, false, pos, Float}
+use Rattle.std.specs.Prelude.{◌≡◌, ℕ, ◌<◌, true, false, pos, Float, Option, Some, None}
 use Rattle.std.specs.Float.{binary64}
 use Rattle.std.specs.Float.Ieee.{of_int, to_unsigned, div, mul, lt}
 use Rattle.std.specs.Float.Ieee.Exact.{HasValue}
@@ -66,12 +66,17 @@ abbrev pub sense_in : Why → Sense
 sense_in (because n) = no_sense
 sense_in (drive_failed s) = s
 
+-- the same, where a number has none
+abbrev pub triple_in : Why → Option Sense
+triple_in (because n) = None
+triple_in (drive_failed s) = Some s
+
 -- what each case of the enum says
 abbrev pub panel_as : Shown → Panel
 panel_as idle = D.Idle
 panel_as (busy p) = D.Busy (fraction_of p)
 panel_as finished = D.Finished
-panel_as (stopped w) = D.Stopped (number w) (sense_in w)
+panel_as (stopped w) = D.Stopped (number w) (triple_in w)
 
 -- what the panel shows of a recorder; busy, the fraction is that of the progress
 pub record Displays (r : Recorder) (x : Panel) : Type 0 where

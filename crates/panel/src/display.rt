@@ -6,26 +6,24 @@ ghost use Rattle.panel.specs.Panel.{Displays, Fraction, ProgressBack};
 
 use recorder::job::{Phase, Poll, Progress, Recorder};
 use recorder::replies::Sense;
+use std::num::saturating_f64_to_u16;
 
-// One of four things: idle, busy with its fraction, finished, or stopped with its number. 12 has its triple beside it, any other zeros.
+// One of four things: idle, busy with its fraction, finished, or stopped with its number. 12 has its triple beside it.
 #[derive(Clone, Copy)]
 pub enum Panel {
     Idle,
     Busy(f64),
     Finished,
-    Stopped { number: u8, sense: Sense },
+    Stopped { number: u8, sense: Option<Sense> },
 }
 
 // The latest progress of a polling under way, else 0.
 fn latest(s: Progress) -> u16
     ensures { result ≡ latest_progress s }
 {
-    let poll = s.poll;
-    let progress = s.seen.progress;
-    match poll {
+    match s.poll {
         Poll::Off => 0,
-        Poll::Ready => progress,
-        Poll::Sense => progress,
+        Poll::Ready | Poll::Sense => s.seen.progress,
     }
 }
 
@@ -40,38 +38,24 @@ pub fn fraction(progress: u16) -> f64
 pub fn progress_of(x: f64) -> u16
     ensures { ProgressBack x result }
 {
-    let y = x * 65536.0;
-    if y > -1.0 {
-        if y < 65536.0 {
-            return std::num::truncating_f64_to_u64(y) as u16;
-        }
-        return 65535;
-    }
-    0
+    saturating_f64_to_u16(x * 65536.0)
 }
 
 // What the panel shows of a recorder: by how its job stands.
 pub fn panel_of(r: Recorder) -> Panel
     ensures { (Displays r result) × ExamplePanels }
 {
-    let phase = r.phase;
-    let progress = r.progress;
-    let none = Sense {
-        key: 0,
-        asc: 0,
-        ascq: 0,
-    };
-    match phase {
+    match r.phase {
         Phase::Idle => Panel::Idle,
-        Phase::Going => Panel::Busy(fraction(latest(progress))),
+        Phase::Going => Panel::Busy(fraction(latest(r.progress))),
         Phase::Finished => Panel::Finished,
         Phase::Stopped(number) => Panel::Stopped {
-            number: number,
-            sense: none,
+            number,
+            sense: None,
         },
         Phase::Failed(sense) => Panel::Stopped {
             number: 12,
-            sense: sense,
+            sense: Some(sense),
         },
     }
 }

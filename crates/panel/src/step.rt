@@ -1,10 +1,11 @@
 // A reply over a recorder that is lent, and found moved on.
-ghost use Rattle.std.specs.Prelude.{◌≡◌};
+ghost use Rattle.mmc.specs.ReplyBlock.{reply_said};
 ghost use Rattle.recorder.specs.History.{Gives};
 ghost use Rattle.panel.specs.Step.{step_with};
 
+use mmc::reply_block::Reply;
 use recorder::answers::{Answer, Cdb};
-use recorder::job::{Recorder, Step};
+use recorder::job::Recorder;
 
 // What comes out of a reply beside the next state: a command or an end, the count of commands, and the command's bytes.
 #[derive(Clone, Copy)]
@@ -14,33 +15,17 @@ pub struct Given {
     pub cdb: Cdb,
 }
 
-// The state of a step.
-fn state_of(s: Step) -> Recorder
-    ensures { result ≡ s.state }
-{
-    s.state
-}
-
-// A step without its state.
-fn given_of(s: Step) -> Given
-    ensures { step_with s.state result ≡ s }
-{
-    let answer = s.answer;
-    let cdb = s.cdb;
-    Given {
-        answer: answer,
-        count: s.count,
-        cdb: cdb,
-    }
-}
-
 // A reply to the latest command goes in; the recorder is found moved on, as the step by value says.
-pub fn give_in_place(r: &mut Recorder, good: bool, bytes: &[u8]) -> Given
-    ensures { Gives r.old good bytes.now (step_with r.new result) }
+pub fn give_in_place(r: &mut Recorder, reply: Reply<'_>) -> Given
+    ensures { Gives r.old (reply_said reply.entry).good (reply_said reply.entry).bytes (step_with r.new result) }
 {
-    let s = (*r).give(good, bytes);
-    *r = state_of(s);
-    given_of(s)
+    let step = r.give(reply);
+    *r = step.state;
+    Given {
+        answer: step.answer,
+        count: step.count,
+        cdb: step.cdb,
+    }
 }
 
 // A recorder after a reply, and what came out beside it.
@@ -50,21 +35,11 @@ pub struct Held {
     pub given: Given,
 }
 
-// Both together.
-fn held_of(r: Recorder, g: Given) -> Held
-    ensures { result ≡ record { recorder = r; given = g } }
-{
-    Held {
-        recorder: r,
-        given: g,
-    }
-}
-
 // Holds a recorder, lends it with a reply, and finds it moved on.
-pub fn lend(r: Recorder, good: bool, bytes: &[u8]) -> Held
-    ensures { Gives r good bytes.now (step_with result.recorder result.given) }
+pub fn lend(r: Recorder, reply: Reply<'_>) -> Held
+    ensures { Gives r (reply_said reply.entry).good (reply_said reply.entry).bytes (step_with result.recorder result.given) }
 {
-    let mut mine = r;
-    let g = give_in_place(&mut mine, good, bytes);
-    held_of(mine, g)
+    let mut recorder = r;
+    let given = give_in_place(&mut recorder, reply);
+    Held { recorder, given }
 }

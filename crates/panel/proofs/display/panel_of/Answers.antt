@@ -1,4 +1,4 @@
-use Rattle.std.proofs.Common.{◌<◌, refl, ap, ◌∙◌, rules}
+use Rattle.std.proofs.Common.{refl, ap, ◌∙◌, rules}
 use Rattle.panel.specs.declared.display.Panel.TheVariants as D
 use Rattle.panel.specs.Panel.{fraction_of}
 use Rattle.panel.proofs.Bench.{example_panels}
@@ -6,26 +6,16 @@ use Rattle.panel.proofs.Shown.{displays}
 use Rattle.panel.proofs.display.panel_of.Goals as goal
 
 pub returns-in-Idle : goal.returns-in-Idle
-returns-in-Idle c =
-    let below : c.args.r.progress.seen.progress < 65536 = search rules in
-    (displays _ _ _ c.in-Idle.is below refl, example_panels)
+returns-in-Idle c = (displays c.args.r _ _ c.in-Idle.is (search rules) refl, example_panels)
 
 pub returns-in-Going : goal.returns-in-Going
-returns-in-Going c =
-    let below : c.args.r.progress.seen.progress < 65536 = search rules in
-    (displays _ _ _ c.in-Going.is below (ap D.Busy (c.fraction.ensures.quotient ∙ ap fraction_of c.latest.ensures)), example_panels)
+returns-in-Going c = (displays c.args.r _ _ c.in-Going.is (search rules) (ap D.Busy (c.fraction.ensures.quotient ∙ ap fraction_of c.latest.ensures)), example_panels)
 
 pub returns-in-Finished : goal.returns-in-Finished
-returns-in-Finished c =
-    let below : c.args.r.progress.seen.progress < 65536 = search rules in
-    (displays _ _ _ c.in-Finished.is below refl, example_panels)
+returns-in-Finished c = (displays c.args.r _ _ c.in-Finished.is (search rules) refl, example_panels)
 
 pub returns-in-Stopped : goal.returns-in-Stopped
-returns-in-Stopped c =
-    let below : c.args.r.progress.seen.progress < 65536 = search rules in
-    (displays _ _ _ c.in-Stopped.is below refl, example_panels)
+returns-in-Stopped c = (displays c.args.r _ _ c.in-Stopped.is (search rules) refl, example_panels)
 
 pub returns-in-Failed : goal.returns-in-Failed
-returns-in-Failed c =
-    let below : c.args.r.progress.seen.progress < 65536 = search rules in
-    (displays _ _ _ c.in-Failed.is below refl, example_panels)
+returns-in-Failed c = (displays c.args.r _ _ c.in-Failed.is (search rules) refl, example_panels)
