@@ -1,28 +1,44 @@
-// What an answer line has besides words. Each function writes behind an index and hands back the index behind its text, as those of
-// `ascii` do; the line takes the longest answer.
-use crate::signed::magnitude;
-use ascii::{add, add_decimal, add_hex};
+// An answer line, and what it has besides words.
+use crate::request::MOST_BYTES;
+use ascii::line::Line;
+use mmc::refusals::Refusal;
+
+// An answer line is not longer: a lent buffer in hex, and what the maker answered.
+const LONGEST_LINE: usize = 4 * MOST_BYTES;
+
+pub(crate) type AnswerLine = Line<LONGEST_LINE>;
 
 // Writes bytes in hex parted by spaces, and no bytes as a dash.
-pub(crate) fn add_bytes(line: &mut [u8], at: usize, bytes: &[u8]) -> usize {
-    if bytes.len() == 0 {
-        return add(line, at, b"-");
+pub(crate) fn push_bytes(line: &mut AnswerLine, bytes: &[u8]) {
+    if bytes.is_empty() {
+        line.push(b"-");
+    } else {
+        line.push_hex(bytes);
     }
-    add_hex(line, at, bytes)
+}
+
+// Writes `ok` and a number behind it.
+pub(crate) fn push_first(line: &mut AnswerLine, n: u64) {
+    line.push(b"ok ");
+    line.push_decimal(n);
 }
 
 // Writes a space and a number.
-pub(crate) fn add_next(line: &mut [u8], at: usize, n: u64) -> usize {
-    let next = add(line, at, b" ");
-    add_decimal(line, next, n)
+pub(crate) fn push_next(line: &mut AnswerLine, n: u64) {
+    line.push(b" ");
+    line.push_decimal(n);
 }
 
 // Writes a number that may be negative.
-pub(crate) fn add_signed(line: &mut [u8], at: usize, z: i64) -> usize {
+pub(crate) fn push_signed(line: &mut AnswerLine, z: i64) {
     if z < 0 {
-        let next = add(line, at, b"-");
-        add_decimal(line, next, magnitude(z))
-    } else {
-        add_decimal(line, at, magnitude(z))
+        line.push(b"-");
     }
+    line.push_decimal(z.unsigned_abs());
+}
+
+// Writes a refusal with its number.
+pub(crate) fn push_refusal(line: &mut AnswerLine, refusal: Refusal) {
+    line.push(b"refused ");
+    line.push_decimal(u64::from(u8::from(refusal)));
 }

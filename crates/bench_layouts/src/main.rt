@@ -9,85 +9,50 @@ mod line;
 mod makers;
 mod readers;
 mod request;
-mod signed;
 
+use crate::line::AnswerLine;
 use crate::makers::made_line;
 use crate::readers::read_line;
-use crate::request::{MOST_BYTES, operation};
-use ascii::add;
-use mmc::bytes::number16;
+use crate::request::{BadRequest, MOST_BYTES, Operation, one_at};
 
 // The descriptors of the standard streams.
 const STDIN_FILENO: i32 = 0;
 
 const STDOUT_FILENO: i32 = 1;
 
-// Writes the answer to a request into the line, without its line feed.
-fn answer_line(b: &[u8], line: &mut [u8]) -> usize {
-    let op = operation(b);
-    match op {
-        1..=5 => read_line(op, b, line),
-        6..=20 => made_line(op, b, line),
-        _ => add(line, 0, b"bad request"),
-    }
-}
-
-// Writes the first n bytes of the line, and tells whether that went well.
-fn write_line(line: &[u8], n: usize) -> bool {
-    if line.len() < n {
-        return false;
-    }
-    io::write_all(STDOUT_FILENO, &line[0..n])
-}
-
-// An answer line is not longer: a lent buffer in hex, and what the maker answered.
-const LONGEST_LINE: usize = 4 * MOST_BYTES;
-
 // Answers a request, and tells whether the whole answer was written.
 fn answer(b: &[u8]) -> bool {
-    let mut line = [0u8; LONGEST_LINE];
-    let end = answer_line(b, &mut line);
-    let n = add(&mut line, end, b"\n");
-    write_line(&line, n)
-}
-
-// Reads a payload as long as its room, and answers it if all of it came.
-fn serve_in(room: &mut [u8]) -> bool {
-    let got = io::read_full(STDIN_FILENO, room);
-    if got < room.len() {
-        return false;
+    let mut line = AnswerLine::new();
+    match Operation::try_from(one_at(b, 0)) {
+        Ok(Operation::Read(reading)) => read_line(reading, b, &mut line),
+        Ok(Operation::Make(form)) => made_line(form, b, &mut line),
+        Err(BadRequest) => line.push(b"bad request"),
     }
-    answer(room)
-}
-
-// Serves a payload of n bytes.
-fn serve_payload(n: usize) -> bool {
-    if MOST_BYTES < n {
-        return false;
-    }
-    let mut space = [0u8; MOST_BYTES];
-    serve_in(&mut space[0..n])
+    line.push(b"\n");
+    io::write_all(STDOUT_FILENO, line.as_bytes())
 }
 
 // Answers one request, and tells whether to go on.
 fn serve() -> bool {
     let mut head = [0u8; 2];
-    let got = io::read_full(STDIN_FILENO, &mut head);
-    if got < 2 {
+    if io::read_full(STDIN_FILENO, &mut head) < head.len() {
         return false;
     }
-    let n = number16(&head) as usize;
-    if n < 1 {
+    let n = usize::from(u16::from_be_bytes(head));
+    if n < 1 || MOST_BYTES < n {
         return false;
     }
-    serve_payload(n)
+    let mut space = [0u8; MOST_BYTES];
+    let payload = &mut space[..n];
+    io::read_full(STDIN_FILENO, payload) == n && answer(payload)
 }
 
 // Answers requests until the input ends. A proved loop has to end, and nothing says that the input
-// does: so the loop counts its turns down, from a number that no run uses up.
+// does: so the loop has more turns than any run takes.
 fn main() {
-    let mut turns = u64::MAX;
-    while turns > 0 && serve() {
-        turns -= 1;
+    for _ in 0..u64::MAX {
+        if !serve() {
+            break;
+        }
     }
 }

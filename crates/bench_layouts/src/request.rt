@@ -29,10 +29,81 @@ ghost use Rattle.std.specs.Prelude.{◌≡◌, not, ◌≤◌, min, eqb, get_or,
 ghost use Rattle.basics.specs.Bytes.{be16, be32};
 ghost use Rattle.mmc.specs.OrderBlock.{kind_of, method_of, recipe_of};
 
-use crate::signed::signed;
-use mmc::bytes::{byte_at, number16, number32};
-use mmc::order::{Kind, Method, Order, ROWS, Recipe, Track};
+use mmc::bytes::{number16, number32};
+use mmc::order::{Kind, Method, NO_TRACK, Order, ROWS, Recipe, Track};
+use mmc::reply_block::Reply;
 use mmc::units::{BlockAddress, BlockCount};
+
+// What a request asks for.
+#[derive(Clone, Copy)]
+pub(crate) enum Operation {
+    Read(Reading),
+    Make(Form),
+}
+
+// What is converted or read.
+#[derive(Clone, Copy)]
+pub(crate) enum Reading {
+    Time,
+    Address,
+    Order,
+    Reply,
+    Sheet,
+}
+
+// What is made in a lent buffer.
+#[derive(Clone, Copy)]
+pub(crate) enum Form {
+    GetConfiguration,
+    ReadDiscInformation,
+    ReadTrackInformation,
+    ModeSelect,
+    SynchronizeCache,
+    SendCueSheet,
+    Write,
+    CloseTrackSession,
+    Reply,
+    Order,
+    Page,
+    Sheet,
+    TestUnitReady,
+    RequestSense,
+    Blank,
+}
+
+// No operation has the number.
+#[derive(Clone, Copy)]
+pub(crate) struct BadRequest;
+
+impl TryFrom<u8> for Operation {
+    type Error = BadRequest;
+
+    fn try_from(n: u8) -> Result<Operation, BadRequest> {
+        match n {
+            1 => Ok(Operation::Read(Reading::Time)),
+            2 => Ok(Operation::Read(Reading::Address)),
+            3 => Ok(Operation::Read(Reading::Order)),
+            4 => Ok(Operation::Read(Reading::Reply)),
+            5 => Ok(Operation::Read(Reading::Sheet)),
+            6 => Ok(Operation::Make(Form::GetConfiguration)),
+            7 => Ok(Operation::Make(Form::ReadDiscInformation)),
+            8 => Ok(Operation::Make(Form::ReadTrackInformation)),
+            9 => Ok(Operation::Make(Form::ModeSelect)),
+            10 => Ok(Operation::Make(Form::SynchronizeCache)),
+            11 => Ok(Operation::Make(Form::SendCueSheet)),
+            12 => Ok(Operation::Make(Form::Write)),
+            13 => Ok(Operation::Make(Form::CloseTrackSession)),
+            14 => Ok(Operation::Make(Form::Reply)),
+            15 => Ok(Operation::Make(Form::Order)),
+            16 => Ok(Operation::Make(Form::Page)),
+            17 => Ok(Operation::Make(Form::Sheet)),
+            18 => Ok(Operation::Make(Form::TestUnitReady)),
+            19 => Ok(Operation::Make(Form::RequestSense)),
+            20 => Ok(Operation::Make(Form::Blank)),
+            _ => Err(BadRequest),
+        }
+    }
+}
 
 // A payload has so many bytes at most, and so has a lent buffer.
 pub(crate) const MOST_BYTES: usize = 4096;
@@ -41,31 +112,21 @@ pub(crate) const MOST_BYTES: usize = 4096;
 pub(crate) fn from(b: &[u8], at: usize) -> &[u8]
     ensures { result.now ≡ drop at b.now }
 {
-    if b.len() < at {
-        return &b[0..0];
-    }
-    &b[at..]
-}
-
-// The operation's number.
-pub(crate) fn operation(b: &[u8]) -> u32
-    ensures { result ≡ get_or b.now 0 0 }
-{
-    byte_at(b, 0)
+    &b[b.len().min(at)..]
 }
 
 // The byte at an index.
 pub(crate) fn one_at(b: &[u8], at: usize) -> u8
     ensures { result ≡ get_or b.now at 0 }
 {
-    byte_at(b, at) as u8
+    b.get(at).copied().unwrap_or(0)
 }
 
 // Whether the byte at an index is not 0.
 pub(crate) fn set_at(b: &[u8], at: usize) -> bool
     ensures { result ≡ not (eqb (get_or b.now at 0) 0) }
 {
-    byte_at(b, at) != 0
+    one_at(b, at) != 0
 }
 
 // The number in the two bytes at an index.
@@ -87,53 +148,49 @@ pub(crate) fn address_at(b: &[u8], at: usize) -> BlockAddress {
     let bytes = from(b, at);
     let high = number32(bytes) as u64;
     let low = number32(from(bytes, 4)) as u64;
-    BlockAddress(signed(high * 4294967296 + low))
+    BlockAddress((high << 32 | low).cast_signed())
 }
 
 // How many bytes are lent, at most all there are.
 pub(crate) fn lent_length(b: &[u8]) -> usize
     ensures { (result ≡ min (be16 (drop 1 b.now)) 4096) × (result ≤ 4096) }
 {
-    let n = two_at(b, 1) as usize;
-    if MOST_BYTES < n { MOST_BYTES } else { n }
+    MOST_BYTES.min(two_at(b, 1) as usize)
 }
 
-// The kind of the byte at an index.
+// The kind of the byte at an index: data for one that is not listed.
 pub(crate) fn kind_at(b: &[u8], at: usize) -> Kind
     ensures { result ≡ kind_of (get_or b.now at 0) }
 {
-    if byte_at(b, at) == 0 {
-        Kind::Audio
-    } else {
-        Kind::Data
-    }
+    Kind::try_from(one_at(b, at)).unwrap_or(Kind::Data)
 }
 
-// The method of the byte at an index.
+// The method of the byte at an index: SAO for one that is not listed.
+#[tactic(auto, unfolding(mmc::specs::OrderBlock::method_of))]
 fn method_at(b: &[u8], at: usize) -> Method
     ensures { result ≡ method_of (get_or b.now at 0) }
 {
-    if byte_at(b, at) == 1 {
-        Method::Tao
-    } else {
-        Method::Sao
-    }
+    Method::try_from(one_at(b, at)).unwrap_or(Method::Sao)
 }
 
-// The recipe of the byte at an index.
+// The recipe of the byte at an index: the new one for one that is not listed.
 fn recipe_at(b: &[u8], at: usize) -> Recipe
     ensures { result ≡ recipe_of (get_or b.now at 0) }
 {
-    if byte_at(b, at) == 0 {
-        Recipe::Old
-    } else {
-        Recipe::New
+    Recipe::try_from(one_at(b, at)).unwrap_or(Recipe::New)
+}
+
+// The reply whose status stands at an index, and whose data behind it.
+pub(crate) fn reply_at(b: &[u8], at: usize) -> Reply<'_> {
+    match from(b, at) {
+        [0, bytes @ ..] => Reply::Good(bytes),
+        [_, bytes @ ..] => Reply::Failed(bytes),
+        [] => Reply::Good(&[]),
     }
 }
 
-// The track of the row at an index.
-fn track_at(b: &[u8], at: usize) -> Track {
-    let row = from(b, at);
+// The track of a row.
+fn track_of(row: &[u8]) -> Track {
     Track {
         kind: kind_at(row, 0),
         length: BlockCount(four_at(row, 1)),
@@ -142,15 +199,9 @@ fn track_at(b: &[u8], at: usize) -> Track {
 
 // The tracks of 99 rows.
 fn tracks_in(rows: &[u8]) -> [Track; ROWS] {
-    let none = Track {
-        kind: Kind::Audio,
-        length: BlockCount(0),
-    };
-    let mut tracks = [none; ROWS];
-    let mut i: usize = 0;
-    while i < tracks.len() {
-        tracks[i] = track_at(rows, 5 * i);
-        i = i + 1;
+    let mut tracks = [NO_TRACK; ROWS];
+    for (track, row) in tracks.iter_mut().zip(rows.chunks(5)) {
+        *track = track_of(row);
     }
     tracks
 }
@@ -158,19 +209,15 @@ fn tracks_in(rows: &[u8]) -> [Track; ROWS] {
 // The order at an index.
 pub(crate) fn order_at(b: &[u8], at: usize) -> Order {
     let bytes = from(b, at);
-    let method = method_at(bytes, 0);
     let flags = one_at(bytes, 1);
-    let count = one_at(bytes, 2);
-    let tracks = tracks_in(from(bytes, 3));
-    let recipe = recipe_at(bytes, 498);
     Order {
-        method: method,
+        method: method_at(bytes, 0),
         keep: flags % 2 == 1,
         protect: flags / 2 % 2 == 1,
         immed: flags / 4 % 2 == 1,
         erase: flags / 8 % 2 == 1,
-        recipe: recipe,
-        count: count,
-        tracks: tracks,
+        recipe: recipe_at(bytes, 498),
+        count: one_at(bytes, 2),
+        tracks: tracks_in(from(bytes, 3)),
     }
 }

@@ -1,10 +1,10 @@
 -- The print program: the text that an input leads to.
-use Rattle.std.specs.Prelude.{◌≡◌, Bool, true, false, ◌&&◌, List, [], ◌∷◌, ◌++◌, ◌⊎◌, ℕ, zero, suc, ◌+◌, ◌*◌, ◌/◌, ◌%◌, ◌≤◌, ◌<◌, length, take, drop}
+use Rattle.std.specs.Prelude.{Bool, true, false, List, [], ◌∷◌, ◌++◌, ℕ, zero, suc, length, take, drop}
+use Rattle.std.specs.Prelude.{◌≡◌, ◌⊎◌, ◌+◌, ◌*◌, ◌/◌, ◌%◌, ◌≤◌, ◌<◌}
+use Rattle.std.specs.Prelude.{Result, Ok, Err}
 use Rattle.basics.specs.Bytes.{if}
 use Rattle.mmc.specs.Refusals.{Outcome, pass, refuse}
 use Rattle.mmc.specs.ReplyBlock.{Reply, read_reply}
-use Rattle.mmc.specs.declared.refusals.Made.{Made}
-use Rattle.mmc.specs.declared.refusals.Made.TheVariants as M
 use Rattle.recorder.specs.Answers.{Ruling, issue, done, stop}
 use Rattle.recorder.specs.Job.{Next, unchanged, take_of, give_of}
 use Rattle.recorder.specs.declared.answers.Cdb.{Cdb}
@@ -12,15 +12,9 @@ use Rattle.recorder.specs.declared.job.Recorder.{Recorder}
 use Rattle.ascii.specs.Text.{codes}
 use Rattle.lines.specs.Lines.{longest, line_of, waiting_line}
 use Rattle.print.specs.declared.run.Run.{Run}
-use Rattle.print.specs.declared.run.Line.{Line}
-use Rattle.print.specs.declared.Sent.{Sent}
+use Rattle.print.specs.declared.OutputLost.{OutputLost}
 
 -- ---- one block
-
--- how many bytes a maker wrote
-abbrev pub written_by : Made → ℕ
-written_by (M.Bytes n) = n
-written_by (M.Refused r) = 0
 
 -- what a reply block leads to: the recorder's step; "A bad block stops it with 1, 2 or 3", and nothing changes
 abbrev pub replied_of : Recorder → Outcome Reply → Next
@@ -103,18 +97,30 @@ pub record Read : Type 0 where
   pub bytes : List ℕ
   pub out : Bool
 
+-- a run once its text is written: Ok where the output took all of it
+abbrev pub Sent : Type 0
+Sent = Result Run OutputLost
+
+abbrev pub run_in : Sent → Run
+run_in (Ok r) = r
+run_in (Err lost) = lost.run
+
 -- a run that stands at a stage, once its text is written, and whether the output took all of it
 abbrev pub sent_at : Stage → Bool → Sent
-sent_at g out = record { run = record { state = g.state; waiting = g.waiting; used = 0 }; out = out }
+sent_at g true = Ok (record { state = g.state; waiting = g.waiting; used = 0 })
+sent_at g false = Err (record { run = record { state = g.state; waiting = g.waiting; used = 0 } })
 
 -- the program reads on where a reply is awaited, unless the output could not be written
 abbrev pub reads_on : Sent → Bool
-reads_on s = s.out && s.run.waiting
+reads_on (Ok r) = r.waiting
+reads_on (Err lost) = false
 
 -- a run after later reads, the latest first
 unfoldable pub after_reads : Sent → List Read → Sent
 after_reads s [] = s
-after_reads s (r ∷ rs) = if (reads_on (after_reads s rs)) (sent_at (read_on (after_reads s rs).run.state r.bytes) r.out) (after_reads s rs)
+after_reads s (r ∷ rs) =
+    let before = after_reads s rs in
+    if (reads_on before) (sent_at (read_on (run_in before).state r.bytes) r.out) before
 
 -- what standard error is told, once and at the end, where the output could not be written; nothing else is
 abbrev pub complaint : List ℕ
@@ -127,7 +133,7 @@ abbrev pub stage_in : Run → List ℕ → Stage
 stage_in r buffer = record { state = r.state; waiting = r.waiting; text = take r.used buffer }
 
 -- what the maker of a line promises: whether a reply is awaited then, the line behind the text, and how much of the buffer is used at most
-pub record AddsLine (a : Ruling) (k : Cdb) (count used : ℕ) (before : List ℕ) (r : Line) (after : List ℕ) : Type 0 where
+pub record AddsLine (a : Ruling) (k : Cdb) (count used : ℕ) (before : List ℕ) (r : Run) (after : List ℕ) : Type 0 where
   pub waiting : r.waiting ≡ waits a
   pub text : take r.used after ≡ take used before ++ line_of a k count
   pub room : r.used ≤ used + longest
@@ -162,11 +168,12 @@ pub record ReadsRest (n : ℕ) (before : List ℕ) (r : ℕ) (after : List ℕ) 
   pub to : r < n + 512
   pub room : r ≤ length after
 
--- what is promised of the writing of a run's text: the run as it was, with no text left to write; the output alone decides on `out`
+-- what is promised of the writing of a run's text: the run as it was, with no text left to write; the output alone
+-- decides whether it is Ok
 pub record Sends (run : Run) (s : Sent) : Type 0 where
-  pub state : s.run.state ≡ run.state
-  pub waiting : s.run.waiting ≡ run.waiting
-  pub used : s.run.used ≡ 0
+  pub state : (run_in s).state ≡ run.state
+  pub waiting : (run_in s).waiting ≡ run.waiting
+  pub used : (run_in s).used ≡ 0
 
 -- what is promised of the loop: it reads on until no reply is awaited or the output could not be written, or 2^64 - 1 times
 pub record Finishes (before after : Sent) : Type 0 where

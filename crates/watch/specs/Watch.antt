@@ -1,17 +1,16 @@
 -- The panel program: what it shows, line by line.
 use Rattle.std.specs.Prelude.{◌≡◌, Bool, false, not, ◌&&◌, List, [], ◌∷◌, ℕ, ◌-◌, ◌≤◌, ◌<◌, length, take}
+use Rattle.std.specs.Prelude.{Result, Ok, Err, is_ok}
 use Rattle.basics.specs.Bytes.{if}
 use Rattle.mmc.specs.Refusals.{Outcome, pass, refuse}
 use Rattle.mmc.specs.ReplyBlock.{Reply, read_reply}
-use Rattle.mmc.specs.declared.refusals.Made.{Made}
-use Rattle.mmc.specs.declared.refusals.Made.TheVariants as M
 use Rattle.recorder.specs.Replies.{no_sense}
 use Rattle.recorder.specs.Job.{rests_at, idle_recorder, take_of, give_of}
 use Rattle.recorder.specs.declared.job.Recorder.{Recorder}
 use Rattle.ascii.specs.Text.{codes}
 use Rattle.lines.specs.Shown.{waiting_shown, stopped_line, shown_line, widest}
 use Rattle.watch.specs.declared.stage.Watch.{Watch}
-use Rattle.watch.specs.declared.Sent.{Sent}
+use Rattle.watch.specs.declared.OutputLost.{OutputLost}
 
 -- ---- where the program stands: the recorder that it holds, whether a reply is awaited, and the line that it shows
 
@@ -72,18 +71,21 @@ complaint = codes "watch: the output could not be written\n"
 
 -- ---- the contracts
 
--- how many bytes a maker wrote
-abbrev pub written_by : Made → ℕ
-written_by (M.Bytes n) = n
-written_by (M.Refused r) = 0
-
 -- where the program stands whose line is in a buffer
 abbrev pub stage_in : Watch → List ℕ → Stage
 stage_in w buffer = record { recorder = w.recorder; waiting = w.waiting; line = take w.used buffer }
 
--- the same once the line is written
+-- where the program stands once its line is written: Ok where the output took all of it
+abbrev pub Sent : Type 0
+Sent = Result Watch OutputLost
+
+abbrev pub watch_in : Sent → Watch
+watch_in (Ok w) = w
+watch_in (Err lost) = lost.watch
+
+-- the same with the line that is in the buffer
 abbrev pub written_in : Sent → List ℕ → Written
-written_in s buffer = record { stage = stage_in s.watch buffer; out = s.out }
+written_in s buffer = record { stage = stage_in (watch_in s) buffer; out = is_ok s }
 
 -- what is promised of each step: where the program stands then, and how long its line can be
 pub record Stands (g : Stage) (w : Watch) (after : List ℕ) : Type 0 where

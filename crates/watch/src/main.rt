@@ -5,12 +5,11 @@
 
 mod stage;
 
-ghost use Rattle.std.specs.Prelude.{◌≡◌, true, false, ◌&&◌, ◌≤◌, length};
-ghost use Rattle.lines.specs.Shown.{widest};
+ghost use Rattle.std.specs.Prelude.{◌≡◌, true, false, ◌≤◌, length, Ok, MatchOption, is_ok};
 ghost use Rattle.watch.specs.Bench.{ExampleStages};
-ghost use Rattle.watch.specs.Watch.{drawn_over, reads_on, complaint, stage_in, written_in, Finishes};
+ghost use Rattle.watch.specs.Watch.{drawn_over, watch_in, reads_on, complaint, stage_in, written_in, Finishes};
 
-use crate::stage::{Watch, begin, go_on, show};
+use crate::stage::{WIDEST, Watch, begin, go_on, show};
 use recorder::job::idle;
 use std::io::IsTerminal;
 
@@ -21,32 +20,23 @@ const STDOUT_FILENO: i32 = 1;
 
 const STDERR_FILENO: i32 = 2;
 
-// Where the program stands once its line is written, and whether the output took all of it.
+// A block has so many bytes.
+const BLOCK_BYTES: usize = 512;
+
+// The output took not all of a line, and the program ends.
 #[derive(Clone, Copy)]
-struct Sent {
+struct OutputLost {
     watch: Watch,
-    out: bool,
 }
 
 // A line that goes over the one before: only the last one ends.
 fn unended(last: bool, line: &[u8]) -> &[u8]
     ensures { result.now ≡ drawn_over last line.now }
 {
-    let n = line.len();
-    if last {
-        return line;
+    match line {
+        [drawn @ .., _] if !last => drawn,
+        _ => line,
     }
-    if n == 0 {
-        return line;
-    }
-    &line[0..n - 1]
-}
-
-// Both.
-fn both(a: bool, b: bool) -> bool
-    ensures { result ≡ (a && b) }
-{
-    a && b
 }
 
 // Writes a line out, and answers whether the output took all of it. On a terminal it goes over the line before.
@@ -56,91 +46,101 @@ fn put_line(terminal: bool, last: bool, line: &[u8]) -> bool {
     }
     let erased = io::write_all(STDOUT_FILENO, b"\r\x1B[K");
     let drawn = io::write_all(STDOUT_FILENO, unended(last, line));
-    both(erased, drawn)
-}
-
-// Whether a line is the last: no reply is awaited.
-fn is_last(w: Watch) -> bool {
-    !w.waiting
+    erased && drawn
 }
 
 // Shows the line. The buffer is named for the contract alone: the bytes are the line's.
-fn send(terminal: bool, last: bool, w: Watch, text: &[u8], line: &[u8]) -> Sent
+fn send(terminal: bool, last: bool, w: Watch, text: &[u8], line: &[u8]) -> Result<Watch, OutputLost>
     requires { line.now ≡ (stage_in w text.now).line }
-    ensures { result.watch ≡ w }
+    ensures { watch_in result ≡ w }
 {
-    let out = put_line(terminal, last, line);
-    Sent { watch: w, out: out }
+    if put_line(terminal, last, line) {
+        Ok(w)
+    } else {
+        Err(OutputLost { watch: w })
+    }
 }
 
 // Shows the line of where the program stands.
-fn flush(terminal: bool, last: bool, w: Watch, text: &[u8]) -> Sent
+fn flush(terminal: bool, last: bool, w: Watch, text: &[u8]) -> Result<Watch, OutputLost>
     requires { w.used ≤ length text.now }
-    ensures { result.watch ≡ w }
+    ensures { watch_in result ≡ w }
 {
-    let used = w.used;
-    send(terminal, last, w, text, &text[0..used])
+    send(terminal, last, w, text, &text[..w.used])
 }
 
-// Whether the program reads on: the output took all of the line, and a reply is awaited. The buffer is named for the contract alone.
-fn reads_on(s: Sent, text: &[u8]) -> bool
-    ensures { result ≡ reads_on (written_in s text.now) }
+// Where the program reads on: the output took all of the line, and a reply is awaited. The buffer is named for the
+// contract alone.
+fn reads_on(s: Result<Watch, OutputLost>, text: &[u8]) -> Option<Watch>
+    ensures { MatchOption result (reads_on (written_in s text.now) ≡ false) (λ w. (s ≡ Ok w) × (w.waiting ≡ true)) }
 {
-    let w = s.watch;
-    s.out && w.waiting
+    match s {
+        Ok(w) if w.waiting => Some(w),
+        _ => None,
+    }
 }
 
-// Reads on until no reply is awaited, or the output can't be written. A proved loop has to end, so it counts its turns down from a number
-// that no run uses up. Its contract also keeps the short inputs, which hold of the definitions that the program meets.
-fn finish(terminal: bool, first: Sent, block: &mut [u8], text: &mut [u8]) -> Sent
-    requires { (length block.old ≡ 512) × (length text.old ≡ widest) }
+// Reads on until no reply is awaited, or the output can't be written. A proved loop has to end, so it has more turns
+// than any run takes. Its contract also keeps the short inputs, which hold of the definitions that the program meets.
+fn finish(
+    terminal: bool,
+    first: Result<Watch, OutputLost>,
+    block: &mut [u8; BLOCK_BYTES],
+    text: &mut [u8; WIDEST],
+) -> Result<Watch, OutputLost>
     ensures { (Finishes (written_in first text.old) result text.new) × ExampleStages }
 {
-    let mut sent = first;
-    let mut turns = u64::MAX;
-    while turns > 0 && reads_on(sent, text) {
+    let mut shown = first;
+    for _ in 0..u64::MAX {
+        let Some(w) = reads_on(shown, text) else {
+            break;
+        };
         let n = io::read_full(STDIN_FILENO, block);
-        let w = sent.watch;
-        let held = w.recorder;
-        let next = go_on(held, &block[0..n], text);
-        sent = flush(terminal, is_last(next), next, text);
-        turns = turns - 1;
+        let next = go_on(w.recorder, &block[..n], text);
+        shown = flush(terminal, !next.waiting, next, text);
     }
-    sent
+    shown
 }
 
 // Writes the complaint, and nothing else, to standard error, where the output could not be written.
-fn complain(out: bool, line: &[u8])
-    requires { (out ≡ false) × (line.now ≡ complaint) }
+fn complain(shown: Result<Watch, OutputLost>, line: &[u8])
+    requires { (is_ok shown ≡ false) × (line.now ≡ complaint) }
 {
     io::write_all(STDERR_FILENO, line);
 }
 
 // Complains unless the output took everything.
-fn report(out: bool) {
-    if !out {
-        complain(out, b"watch: the output could not be written\n");
+#[tactic(auto, unfolding(ascii::specs::Text::codes))]
+fn report(shown: Result<Watch, OutputLost>) {
+    if shown.is_err() {
+        complain(shown, b"watch: the output could not be written\n");
     }
 }
 
-// Shows what comes of an order block and reply blocks, and answers whether the output took all of it. Nothing is read where it did not
-// take the line before.
-fn show_job(out: bool, terminal: bool, text: &mut [u8]) -> bool
-    requires { (out ≡ true) × (length text.old ≡ widest) }
+// Shows what comes of an order block and reply blocks. Nothing is read where the output did not take the line before.
+fn show_job(
+    before: Result<Watch, OutputLost>,
+    terminal: bool,
+    text: &mut [u8; WIDEST],
+) -> Result<Watch, OutputLost>
+    requires { is_ok before ≡ true }
 {
-    let mut block = [0u8; 512];
+    let mut block = [0u8; BLOCK_BYTES];
     let n = io::read_full(STDIN_FILENO, &mut block);
-    let begun = begin(&block[0..n], text);
-    let first = flush(terminal, is_last(begun), begun, text);
-    let last = finish(terminal, first, &mut block, text);
-    last.out
+    let begun = begin(&block[..n], text);
+    let first = flush(terminal, !begun.waiting, begun, text);
+    finish(terminal, first, &mut block, text)
 }
 
 fn main(rt: HostRuntime) {
     let terminal = rt.stdout().is_terminal();
-    let mut text = [0u8; 128];
-    let before = show(idle(), &mut text);
-    let shown = flush(terminal, false, before, &text);
-    let out = shown.out && show_job(shown.out, terminal, &mut text);
-    report(out);
+    let mut text = [0u8; WIDEST];
+    let idle = show(idle(), &mut text);
+    let before = flush(terminal, false, idle, &text);
+    let last = if before.is_ok() {
+        show_job(before, terminal, &mut text)
+    } else {
+        before
+    };
+    report(last);
 }

@@ -1,16 +1,18 @@
 // Where the panel program stands after the order and after each reply: the recorder is called, and what its panel shows becomes a line.
-ghost use Rattle.std.specs.Prelude.{◌≡◌, not, [], ◌≤◌, length};
+ghost use Rattle.std.specs.Prelude.{◌≡◌, []};
 ghost use Rattle.mmc.specs.Refusals.{refuse, number_of};
-ghost use Rattle.mmc.specs.ReplyBlock.{read_reply};
-ghost use Rattle.recorder.specs.Job.{rests_at, give_of};
-ghost use Rattle.lines.specs.Shown.{widest};
-ghost use Rattle.watch.specs.Watch.{written_by, standing, begun_with, replied_of, read_on, Stands};
+ghost use Rattle.mmc.specs.ReplyBlock.{read_reply, reply_said};
+ghost use Rattle.recorder.specs.Job.{give_of};
+ghost use Rattle.watch.specs.Watch.{standing, begun_with, replied_of, read_on, Stands};
 
 use lines::shown;
-use mmc::refusals::{Made, Refusal};
-use mmc::reply_block::{ReplyRead, read_reply, reply_data};
+use mmc::refusals::Refusal;
+use mmc::reply_block::{Reply, read_reply};
 use panel::step::lend;
-use recorder::job::{Phase, Recorder, take};
+use recorder::job::{Recorder, take};
+
+// So many bytes are enough for any line.
+pub(crate) const WIDEST: usize = 128;
 
 // The recorder that is held, whether a reply is awaited, and how many bytes of the buffer the line has.
 #[derive(Clone, Copy)]
@@ -20,106 +22,71 @@ pub struct Watch {
     pub used: usize,
 }
 
-// How many bytes a maker wrote.
-fn written(made: Made) -> usize
-    ensures { result ≡ written_by made }
-{
-    match made {
-        Made::Bytes(n) => n,
-        Made::Refused(_) => 0,
-    }
-}
-
-// Whether a reply is awaited.
-fn waits(phase: Phase) -> bool
-    ensures { result ≡ not (rests_at phase) }
-{
-    match phase {
-        Phase::Idle => false,
-        Phase::Going => true,
-        Phase::Finished => false,
-        Phase::Stopped(_) => false,
-        Phase::Failed(_) => false,
-    }
-}
-
 // Shows what the panel shows of a recorder.
-pub(crate) fn show(r: Recorder, text: &mut [u8]) -> Watch
-    requires { widest ≤ length text.old }
+pub(crate) fn show(r: Recorder, text: &mut [u8; WIDEST]) -> Watch
     ensures { Stands (standing r) result text.new }
 {
-    let made = shown::shown_line(r, text);
-    let phase = r.phase;
+    let line = shown::shown_line(r, text);
     Watch {
         recorder: r,
-        waiting: waits(phase),
-        used: written(made),
+        waiting: !r.rests(),
+        used: line.unwrap_or(0),
     }
 }
 
 // An order block is taken.
-pub(crate) fn begin(block: &[u8], text: &mut [u8]) -> Watch
-    requires { widest ≤ length text.old }
+pub(crate) fn begin(block: &[u8], text: &mut [u8; WIDEST]) -> Watch
     ensures { Stands (begun_with block.now) result text.new }
 {
-    let step = take(block);
-    let state = step.state;
-    show(state, text)
+    show(take(block).state, text)
 }
 
 // A block that is no reply block.
-fn refuse_block(r: Recorder, refusal: Refusal, text: &mut [u8]) -> Watch
-    requires { widest ≤ length text.old }
+fn refuse_block(r: Recorder, refusal: Refusal, text: &mut [u8; WIDEST]) -> Watch
     ensures { Stands (replied_of r (refuse (number_of refusal))) result text.new }
 {
-    let made = shown::refused_line(refusal, r.count, text);
+    let line = shown::refused_line(refusal, r.count, text);
     Watch {
         recorder: r,
         waiting: false,
-        used: written(made),
+        used: line.unwrap_or(0),
     }
 }
 
 // The recorder is lent with a reply, and found moved on.
-fn moved_on(r: Recorder, good: bool, bytes: &[u8]) -> Recorder
-    ensures { result ≡ (give_of r good bytes.now).state }
+fn moved_on(r: Recorder, reply: Reply<'_>) -> Recorder
+    ensures { result ≡ (give_of r (reply_said reply.entry).good (reply_said reply.entry).bytes).state }
 {
-    let held = lend(r, good, bytes);
-    held.recorder
+    lend(r, reply).recorder
 }
 
 // A reply block.
-fn reply(r: Recorder, block: &[u8], text: &mut [u8]) -> Watch
-    requires { widest ≤ length text.old }
+fn reply(r: Recorder, block: &[u8], text: &mut [u8; WIDEST]) -> Watch
     ensures { Stands (replied_of r (read_reply block.now)) result text.new }
 {
-    let read = read_reply(block);
-    match read {
-        ReplyRead::Good(n) => show(moved_on(r, true, reply_data(block, n)), text),
-        ReplyRead::Failed(n) => show(moved_on(r, false, reply_data(block, n)), text),
-        ReplyRead::Refused(refusal) => refuse_block(r, refusal, text),
+    match read_reply(block) {
+        Ok(reply) => show(moved_on(r, reply), text),
+        Err(refusal) => refuse_block(r, refusal, text),
     }
 }
 
 // No more replies come.
-fn run_out(r: Recorder, text: &mut [u8]) -> Watch
-    requires { widest ≤ length text.old }
+fn run_out(r: Recorder, text: &mut [u8; WIDEST]) -> Watch
     ensures { Stands (read_on r []) result text.new }
 {
-    let made = shown::waiting_line(r.count, text);
+    let line = shown::waiting_line(r.count, text);
     Watch {
         recorder: r,
         waiting: false,
-        used: written(made),
+        used: line.unwrap_or(0),
     }
 }
 
 // What was read: a reply block, or nothing.
-pub(crate) fn go_on(r: Recorder, input: &[u8], text: &mut [u8]) -> Watch
-    requires { widest ≤ length text.old }
+pub(crate) fn go_on(r: Recorder, input: &[u8], text: &mut [u8; WIDEST]) -> Watch
     ensures { Stands (read_on r input.now) result text.new }
 {
-    if input.len() == 0 {
+    if input.is_empty() {
         return run_out(r, text);
     }
     reply(r, input, text)

@@ -1,4 +1,4 @@
--- Lines behind a text, the data of a reply block, and the blocks of an input.
+-- Lines behind a text, and the blocks of an input.
 use mathlib.Core.Path.{◌≡◌, refl, sym, ap, ◌∙◌}
 use mathlib.Core.Bool.{Bool, true, false}
 use mathlib.Core.List.{List, [], ◌∷◌, ◌++◌, append_assoc, append-nil}
@@ -7,79 +7,72 @@ use Prim.Native.Nat.{ℕ, zero, suc, ◌+◌, ◌-◌, ◌*◌, ◌/◌, ◌%◌
 use native.Mathlib.Nat.{min-eq_left, min-eq_right}
 use native.Mathlib.Decide.{dec_le}
 use native.Mathlib.Omega.{arith}
-use borrow.Author.Tests.{le-leb, leb-true}
-use lib.Dec.{leb}
-use lib.ListN.{length, take, drop, length-append, length-drop, length-replicate, drop_of_length-le}
-use lib.Seq.{length-take-le, take_all, take_at, drop-drop, take-append-le, drop-append-le}
-use Rattle.basics.specs.Bytes.{if, part_of}
-use Rattle.mmc.specs.Refusals.{pass, refuse, made_of, answer_of, buffer_of}
-use Rattle.mmc.specs.Block.{sealed}
-use Rattle.mmc.specs.ReplyBlock.{reply_of, reply_head, reply_body, reply_bytes, reply_block}
-use Rattle.mmc.specs.declared.refusals.Made.{Made}
-use Rattle.mmc.specs.declared.refusals.Made.TheVariants as M
-use Rattle.recorder.specs.Job.{Next, take_of}
+use borrow.Author.Tests.{le-leb}
+use lib.ListN.{length, take, drop, length-append, length-drop, drop_of_length-le}
+use lib.Seq.{length-take-le, take_all, take_at, take-append-le, drop-append-le}
+use Rattle.std.proofs.Math.Seq.{drop-append_seam}
+use Rattle.std.proofs.lemmas.List.{take-append-drop, length-take}
+use Rattle.std.specs.Prelude.{Result, Ok, Err}
+use Rattle.std.specs.Result.{result_unwrap_or}
+use Rattle.basics.specs.Bytes.{if}
+use Rattle.mmc.specs.Refusals.{pass, outcome_of, answer_of, buffer_of}
+use Rattle.mmc.specs.declared.refusals.Refusal.{Refusal}
+use Rattle.recorder.specs.Job.{take_of}
 use Rattle.recorder.specs.declared.job.Recorder.{Recorder}
 use Rattle.lines.specs.Lines.{longest, Writes}
-use Rattle.print.specs.Run.{written_by, Stage, answered_of, replied_to, cut, input_blocks, fed, begun_with, waiting_for, ending, printed, awaiting, read_on, following, stage_in, room_for, Reaches, Begins, GoesOn}
+use Rattle.print.specs.Run.{Stage, answered_of, replied_to, cut, input_blocks, fed, begun_with, waiting_for, ending}
+use Rattle.print.specs.Run.{printed, awaiting, read_on, following, stage_in, room_for, Reaches, Begins, GoesOn}
 use Rattle.print.specs.declared.run.Run.{Run}
 
 -- ---- lines
 
-counted : (n : ℕ) (r : Made) → made_of r ≡ pass n → written_by r ≡ n
-counted n (M.Bytes k) e = cc
-counted n (M.Refused x) e = let z : ◌≡◌ {A = ℕ} 0 1 = cc in absurd (omega arith)
+counted : (n : ℕ) (r : Result ℕ Refusal) → outcome_of r ≡ pass n → result_unwrap_or r 0 ≡ n
+counted n (Ok k) e = cc
+counted n (Err x) e = let z : ◌≡◌ {A = ℕ} 0 1 = cc in absurd (omega arith)
 
 -- a line goes whole into a buffer of 64 bytes
-pub wrote : {line before after : List ℕ} (r : Made) → Writes longest line r before after → 64 ≤ length before → (written_by r ≡ length line) × (after ≡ line ++ drop (length line) before)
+pub wrote :
+    {line before after : List ℕ} (r : Result ℕ Refusal) → Writes longest line r before after → 64 ≤ length before →
+    (result_unwrap_or r 0 ≡ length line) × (after ≡ line ++ drop (length line) before)
 unfolding answer_of buffer_of
 wrote {line} {before} {after} r w h =
     let l = le-leb (length line) (length before) (omega (arith, w.short)) in
     (counted (length line) r (w.filled.answer ∙ simp l), w.filled.buffer ∙ simp l)
 
--- a line goes into the part of a buffer behind the text
-pub goes_in : (text : List ℕ) (u : ℕ) {part line : List ℕ} (r : Made) → u + 64 ≤ length text → Writes longest line r (take (length text - u) (drop u text)) part → (written_by r ≡ length line) × (part ≡ line ++ drop (length line) (take (length text - u) (drop u text)))
+-- the part of a buffer behind the text
+abbrev pub behind_text : List ℕ → ℕ → List ℕ
+behind_text text u = take (length text - u) (drop u text)
+
+-- a line goes into it
+goes_in :
+    (text : List ℕ) (u : ℕ) {part line : List ℕ} (r : Result ℕ Refusal) → u + 64 ≤ length text →
+    Writes longest line r (behind_text text u) part →
+    (result_unwrap_or r 0 ≡ length line) × (part ≡ line ++ drop (length line) (behind_text text u))
 goes_in text u r h w =
     let k = length-take-le (length text - u) (drop u text) (omega (arith, length-drop u text)) in
     wrote r w (omega arith)
 
-pub added : (text : List ℕ) (u : ℕ) {part line : List ℕ} (r : Made) (more : List ℕ) → u + 64 ≤ length text → Writes longest line r (take (length text - u) (drop u text)) part → take (u + written_by r) (take u text ++ (part ++ more)) ≡ take u text ++ line
+pub few :
+    (text : List ℕ) (u : ℕ) {part line : List ℕ} (r : Result ℕ Refusal) → u + 64 ≤ length text →
+    Writes longest line r (behind_text text u) part → result_unwrap_or r 0 ≤ 64
+few text u r h w = omega (arith, (goes_in text u r h w).0, w.short)
+
+pub added :
+    (text : List ℕ) (u : ℕ) {part line : List ℕ} (r : Result ℕ Refusal) (more : List ℕ) → u + 64 ≤ length text →
+    Writes longest line r (behind_text text u) part →
+    take (u + result_unwrap_or r 0) (take u text ++ (part ++ more)) ≡ take u text ++ line
 added text u {part} {line} r more h w =
     let e = goes_in text u r h w in
-    let rest = drop (length line) (take (length text - u) (drop u text)) in
-    let n : length (take u text ++ line) ≡ u + written_by r = omega (arith, length-append (take u text) line, length-take-le u text (omega arith), e.0) in
+    let rest = drop (length line) (behind_text text u) in
+    let k = length-take-le u text (omega arith) in
+    let l = length-append (take u text) line in
+    let n : length (take u text ++ line) ≡ u + result_unwrap_or r 0 = omega (arith, l, k, e.0) in
     let q : take u text ++ (part ++ more) ≡ (take u text ++ line) ++ (rest ++ more) = rw e.1 (simp append_assoc) in
-    rw q (take_at (take u text ++ line) (rest ++ more) (u + written_by r) n)
+    rw q (take_at (take u text ++ line) (rest ++ more) (u + result_unwrap_or r 0) n)
 
 -- two stages of one state
 pub stage_of : (s : Recorder) {a b : Bool} {x y : List ℕ} → a ≡ b → x ≡ y → ◌≡◌ {A = Stage} (record { state = s; waiting = a; text = x }) (record { state = s; waiting = b; text = y })
 stage_of s e f = rw (e, f)
-
--- ---- the data of a reply block
-
--- a block that a reply is written in has 512 bytes, and at most 506 of data
-shaped : (good : Bool) (d b : List ℕ) → reply_block (reply_of good d) ≡ pass b → (length d ≤ 506) × (length b ≡ 512)
-unfolding reply_block reply_bytes sealed reply_body reply_head
-shaped good d b w = of (leb (length d) 506) refl w
-  where
-    of : (t : Bool) → leb (length d) 506 ≡ t → if t (pass (reply_bytes (reply_of good d))) (refuse 3) ≡ pass b → (length d ≤ 506) × (length b ≡ 512)
-    of true t e =
-        let h = leb-true (length d) 506 t in
-        let f : reply_bytes (reply_of good d) ≡ b = cc in
-        (h, sym (ap length f) ∙ simp (length-append, length-replicate) (omega arith))
-    of false t e = let z : ◌≡◌ {A = ℕ} 0 1 = cc in absurd (omega arith)
-
--- so the data that the block holds is the part of it that the reader names
-pub data_part : (good : Bool) (b : List ℕ) (n : ℕ) → reply_block (reply_of good (take n (drop 4 b))) ≡ pass b → part_of b 4 n ≡ take n (drop 4 b)
-unfolding part_of
-data_part good b n w = of (dec_le (4 + n) (length b))
-  where
-    of : Dec (4 + n ≤ length b) → if (leb (4 + n) (length b)) (take n (drop 4 b)) [] ≡ take n (drop 4 b)
-    of (yes h) = simp (le-leb (4 + n) (length b) h)
-    of (no h) =
-        let s = shaped good (take n (drop 4 b)) b w in
-        let l = length-drop 4 b in
-        let e : take n (drop 4 b) ≡ drop 4 b = take_all n (drop 4 b) (omega arith) in
-        absurd (omega (arith, s, ap length e))
 
 -- ---- blocks
 
@@ -103,38 +96,36 @@ blocks_next (x ∷ s) h =
     let l = length-drop 512 (x ∷ s) in
     ap (λ (bs : List (List ℕ)). take 512 (x ∷ s) ∷ bs) (enough (length s) (length (drop 512 (x ∷ s))) (drop 512 (x ∷ s)) (omega arith) (omega arith))
 
--- where a block ends, and the room for the lines of the blocks behind it
-abbrev pub Ends : ℕ → ℕ → ℕ → Type 0
-Ends n at e = (at < e) × (e ≤ n) × (room_for (n - e) + 64 ≡ room_for (n - at))
-
-pub block_ends : (n at e : ℕ) → at < n → e ≡ at + min 512 (n - at) → Ends n at e
-block_ends n at e h p = of (dec_le 512 (n - at))
+-- the room for the line of the first block, and for those behind it
+pub room_next : (n m : ℕ) → 0 < n → m ≡ n - min 512 n → room_for m + 64 ≡ room_for n
+room_next n m h e = of (dec_le 512 n)
   where
-    of : Dec (512 ≤ n - at) → Ends n at e
-    of (yes k) = let m = min-eq_left k in (omega arith, omega arith, omega arith)
+    of : Dec (512 ≤ n) → room_for m + 64 ≡ room_for n
+    of (yes k) = let q = min-eq_left k in omega arith
     of (no k) =
-        let j : n - at ≤ 512 = omega arith in
-        let m = min-eq_right j in
-        (omega arith, omega arith, omega arith)
+        let j : n ≤ 512 = omega arith in
+        let q = min-eq_right j in
+        omega arith
 
--- the block at an index, which ends where the next one starts or where the input ends
-pub block_at : (s : List ℕ) (at e : ℕ) → at ≤ length s → e ≡ at + min 512 (length s - at) → (take (e - at) (drop at s) ≡ take 512 (drop at s)) × (drop e s ≡ drop 512 (drop at s))
-block_at s at e h p = of (dec_le 512 (length s - at))
+none_of : (t : List ℕ) → length t ≡ 0 → t ≡ []
+none_of [] e = refl
+none_of (x ∷ t) e = absurd (omega arith)
+
+-- a piece that comes off the front of an input and is short only where less is left is its first block
+pub first_block : (s b t : List ℕ) → s ≡ b ++ t → length b ≡ min 512 (length s) → (b ≡ take 512 s) × (t ≡ drop 512 s)
+first_block s b t e n = of (dec_le 512 (length s))
   where
-    of : Dec (512 ≤ length s - at) → (take (e - at) (drop at s) ≡ take 512 (drop at s)) × (drop e s ≡ drop 512 (drop at s))
-    of (yes k) =
-        let m = min-eq_left k in
-        let f : e - at ≡ 512 = omega arith in
-        let g : e ≡ at + 512 = omega arith in
-        (rw f, rw (drop-drop, g))
-    of (no k) =
-        let l = length-drop at s in
-        let j : length s - at ≤ 512 = omega arith in
-        let m = min-eq_right j in
-        let a : length (drop at s) ≤ e - at = omega arith in
-        let b : length (drop at s) ≤ 512 = omega arith in
-        let g : length s ≤ e = omega arith in
-        (take_all (e - at) (drop at s) a ∙ sym (take_all 512 (drop at s) b), drop_of_length-le s g ∙ sym (drop_of_length-le (drop at s) b))
+    of : Dec (512 ≤ length s) → (b ≡ take 512 s) × (t ≡ drop 512 s)
+    of (yes h) =
+        let q = min-eq_left h in
+        let k : length b ≡ 512 = omega arith in
+        (sym (ap (take 512) e ∙ take_at b t 512 k), sym (ap (drop 512) e ∙ rw (← k) (drop-append_seam b t)))
+    of (no h) =
+        let j : length s ≤ 512 = omega arith in
+        let q = min-eq_right j in
+        let z : length t ≡ 0 = omega (arith, length-append b t, ap length e) in
+        let f : s ≡ b = e ∙ ap (λ (x : List ℕ). b ++ x) (none_of t z) ∙ append-nil b in
+        (sym (take_all 512 s j ∙ f), none_of t z ∙ sym (drop_of_length-le s j))
 
 -- ---- a run over blocks
 
@@ -147,29 +138,32 @@ unfolding fed
 fed_ended g [] e = refl
 fed_ended g (b ∷ bs) e = simp e
 
--- the block at an index, and the blocks behind it
-pub fed_step : (g h : Stage) (s : List ℕ) (at e : ℕ) → at < length s → e ≡ at + min 512 (length s - at) → g.waiting ≡ true → h ≡ replied_to g (take (e - at) (drop at s)) → fed h (input_blocks (drop e s)) ≡ fed g (input_blocks (drop at s))
-fed_step g h s at e l p w q =
-    let k = block_at s at e (omega arith) p in
-    let n : 0 < length (drop at s) = omega (arith, length-drop at s) in
-    ap (λ (x : Stage). fed x (input_blocks (drop e s))) (q ∙ ap (replied_to g) k.0)
-    ∙ ap (λ (t : List ℕ). fed (replied_to g (take 512 (drop at s))) (input_blocks t)) k.1
-    ∙ sym (fed_next g (take 512 (drop at s)) (input_blocks (drop 512 (drop at s))) w)
-    ∙ ap (fed g) (sym (blocks_next (drop at s) n))
+-- the first block, and the blocks behind it
+pub fed_step :
+    (g h : Stage) (s b t : List ℕ) → 0 < length s → s ≡ b ++ t → length b ≡ min 512 (length s) →
+    g.waiting ≡ true → h ≡ replied_to g b → fed h (input_blocks t) ≡ fed g (input_blocks s)
+fed_step g h s b t l e n w q =
+    let k = first_block s b t e n in
+    ap (λ (x : Stage). fed x (input_blocks t)) (q ∙ ap (replied_to g) k.0)
+    ∙ ap (λ (x : List ℕ). fed (replied_to g (take 512 s)) (input_blocks x)) k.1
+    ∙ sym (fed_next g (take 512 s) (input_blocks (drop 512 s)) w)
+    ∙ ap (fed g) (sym (blocks_next s l))
 
 -- no block is left
-pub fed_all : (g : Stage) (s : List ℕ) (at : ℕ) → length s ≤ at → fed g (input_blocks (drop at s)) ≡ g
+pub fed_all : (g : Stage) (s : List ℕ) → length s ≡ 0 → fed g (input_blocks s) ≡ g
 unfolding fed input_blocks cut
-fed_all g s at h = ap (λ (t : List ℕ). fed g (input_blocks t)) (drop_of_length-le s h)
+fed_all g s h = ap (λ (t : List ℕ). fed g (input_blocks t)) (none_of s h)
 
 -- the order block, and the reply blocks behind it
-pub begun : (s : List ℕ) (e : ℕ) (g : Stage) {n : Next} → e ≡ 0 + min 512 (length s - 0) → n ≡ take_of (take (e - 0) (drop 0 s)) → g ≡ answered_of n [] → fed g (input_blocks (take (length s - e) (drop e s))) ≡ begun_with s
+pub begun :
+    (s b t : List ℕ) (n : ℕ) (g : Stage) → n ≡ min (length s) 512 → b ≡ take n s → t ≡ drop n s →
+    g ≡ answered_of (take_of b) [] → fed g (input_blocks t) ≡ begun_with s
 unfolding begun_with
-begun s e g p q r =
-    let k = block_at s 0 e (omega arith) p in
-    let t : take (length s - e) (drop e s) ≡ drop 512 s = take_all (length s - e) (drop e s) (omega (arith, length-drop e s)) ∙ k.1 in
-    ap (λ (x : Stage). fed x (input_blocks (take (length s - e) (drop e s)))) (r ∙ ap (λ (x : Next). answered_of x []) (q ∙ ap take_of k.0))
-    ∙ ap (λ (b : List ℕ). fed (answered_of (take_of (take 512 s)) []) (input_blocks b)) t
+begun s b t n g p e f q =
+    let m : min n (length s) ≡ min 512 (length s) = omega arith in
+    let k = first_block s b t (rw (e, f) (sym (take-append-drop n s))) (ap length e ∙ length-take n s ∙ m) in
+    ap (λ (x : Stage). fed x (input_blocks t)) (q ∙ ap (λ (x : List ℕ). answered_of (take_of x) []) k.0)
+    ∙ ap (λ (x : List ℕ). fed (answered_of (take_of (take 512 s)) []) (input_blocks x)) k.1
 
 -- ---- one read after another
 

@@ -1,18 +1,22 @@
+use mathlib.Core.Path.{refl}
 use native.Mathlib.Omega.{arith}
-use Prim.Native.Nat.{◌≤◌}
-use Rattle.print.proofs.run.Laws.{goes_in, added}
+use Rattle.print.proofs.run.Laws.{few, added}
 use Rattle.print.proofs.run.add_line.Goals as goal
 
 pub overflow_add-result : goal.overflow_add-result
 overflow_add-result c =
-    let few : c.written.result ≤ 64 = omega (arith, c.written.ensures, (goes_in c.args.text.now c.args.used c.answer_line-made.result c.requires c.answer_line-made.ensures).0, c.answer_line-made.ensures.short) in
-    omega (arith, few)
+    let line = c.answer_line-line in
+    omega (arith, c.unwrap_or.ensures, few c.args.text.now c.args.used line.result c.requires line.ensures)
 
 pub returns : goal.returns
 returns c =
-    let few : c.written.result ≤ 64 = omega (arith, c.written.ensures, (goes_in c.args.text.now c.args.used c.answer_line-made.result c.requires c.answer_line-made.ensures).0, c.answer_line-made.ensures.short) in
+    let line = c.answer_line-line in
+    let few = few c.args.text.now c.args.used line.result c.requires line.ensures in
     record {
-      waiting = c.is_command.ensures;
-      text = rw c.written.ensures (added c.args.text.now c.args.used c.answer_line-made.result _ c.requires c.answer_line-made.ensures);
-      room = omega (arith, few);
+      state = refl;
+      line = record {
+        waiting = c.is_command.ensures;
+        text = rw c.unwrap_or.ensures (added c.args.text.now c.args.used line.result _ c.requires line.ensures);
+        room = omega (arith, c.unwrap_or.ensures, few);
+      };
     }

@@ -1,57 +1,47 @@
-use mathlib.Core.Path.{refl, sym, ◌∙◌}
+use mathlib.Core.Path.{◌≡◌, sym, ap, ◌∙◌}
+use Prim.Native.Nat.{◌-◌, min}
 use native.Mathlib.Omega.{arith}
-use lib.ListN.{length}
+use lib.ListN.{length, length-append}
 use borrow.Author.Tests.{not-true, not-false}
+use Rattle.std.specs.Slice.Iter.{chunks_rest}
 use Rattle.print.specs.Run.{stage_in}
-use Rattle.print.proofs.run.Laws.{Ends, block_ends, fed_ended, fed_step, fed_all}
+use Rattle.print.proofs.run.Laws.{room_next, fed_ended, fed_step, fed_all}
 use Rattle.print.proofs.run.feed.Goals as goal
-
-pub loop-at-init : goal.loop-at-init
-loop-at-init c = (omega arith, refl, omega arith, refl)
-
-pub shape_of-text-then-not-current : goal.shape_of-text-then-not-current
-shape_of-text-then-not-current c = c.loop-at.invariant.1
 
 pub returns-then-not-current : goal.returns-then-not-current
 returns-then-not-current c =
+    let i = c.loop-block.invariant in
+    let at = stage_in c.loop-block.current c.loop-block.text in
     record {
-      stage = sym (fed_ended (stage_in c.loop-at.current c.loop-at.text) _ (not-true _ c.if-not-current.true)) ∙ c.loop-at.invariant.3;
+      stage = sym (fed_ended at _ (not-true _ c.if-not-current.true)) ∙ i.3;
       room = omega arith;
     }
 
-pub slice_bounds-next_block-start : goal.slice_bounds-next_block-start
-slice_bounds-next_block-start c =
-    let ends : Ends (length c.args.input.now) c.loop-at.at c.block_end-end.result = block_ends (length c.args.input.now) c.loop-at.at c.block_end-end.result (omega arith) c.block_end-end.ensures in
-    omega (arith, ends)
-
-pub slice_bounds-next_block-end : goal.slice_bounds-next_block-end
-slice_bounds-next_block-end c =
-    let ends : Ends (length c.args.input.now) c.loop-at.at c.block_end-end.result = block_ends (length c.args.input.now) c.loop-at.at c.block_end-end.result (omega arith) c.block_end-end.ensures in
-    omega (arith, ends)
-
-pub loop-at-smaller : goal.loop-at-smaller
-loop-at-smaller c =
-    let ends : Ends (length c.args.input.now) c.loop-at.at c.block_end-end.result = block_ends (length c.args.input.now) c.loop-at.at c.block_end-end.result (omega arith) c.block_end-end.ensures in
-    omega (arith, ends)
-
-pub loop-at-preserved : goal.loop-at-preserved
-loop-at-preserved c =
-    let ends : Ends (length c.args.input.now) c.loop-at.at c.block_end-end.result = block_ends (length c.args.input.now) c.loop-at.at c.block_end-end.result (omega arith) c.block_end-end.ensures in
-    let s = c.args.input.now in
-    let e = ends in (
-      omega arith,
-      c.next_block-current.auto.text ∙ c.loop-at.invariant.1,
-      omega (arith, c.next_block-current.ensures.room),
-      fed_step (stage_in c.loop-at.current c.loop-at.text) _ s c.loop-at.at c.block_end-end.result (omega arith) c.block_end-end.ensures (not-false _ c.if-not-current.false) c.next_block-current.ensures.stage ∙ c.loop-at.invariant.3,
+pub loop-block-preserved : goal.loop-block-preserved
+loop-block-preserved c =
+    let i = c.loop-block.invariant in
+    let s = c.in-Some.ensures.steps in
+    let run = c.next_block-current in
+    let block = c.in-Some.block.now in
+    let rest = chunks_rest c.loop-block.block-iterator in
+    let left = chunks_rest c.next.new.self in
+    let size : length block ≡ min 512 (length rest) = cc in
+    let parts = ap length s.1.0 in
+    let behind : length left ≡ length rest - min 512 (length rest) = omega (arith, parts, length-append block left) in
+    let on = not-false _ c.if-not-current.false in
+    let room = room_next (length rest) (length left) s.1.2 behind in (
+      s.0 ∙ i.0,
+      run.auto.text ∙ i.1,
+      omega (arith, run.ensures.room),
+      fed_step (stage_in c.loop-block.current c.loop-block.text) _ rest block left s.1.2 s.1.0 size on run.ensures.stage
+          ∙ i.3,
     )
-
-pub shape_of-text : goal.shape_of-text
-shape_of-text c = c.loop-at.invariant.1
 
 pub returns : goal.returns
 returns c =
-    let a = c.args in
+    let i = c.loop-block.invariant in
+    let at = stage_in c.loop-block.current c.loop-block.text in
     record {
-      stage = sym (fed_all (stage_in c.loop-at.current c.loop-at.text) a.input.now c.loop-at.at (omega arith)) ∙ c.loop-at.invariant.3;
+      stage = sym (fed_all at (chunks_rest c.loop-block.block-iterator) c.in-None.ensures.steps.1.0) ∙ i.3;
       room = omega arith;
     }
