@@ -34,12 +34,12 @@ fn operators_put_back() {
     for (old, new, what) in [
         ("in_512ths(n) >> 9", "n / 75", "a division"),
         (
-            "frame_at(past_512ths(in_512ths(n))) as u8",
+            "frame_at(past(in_512ths(n), 9)) as u8",
             "(n % 75) as u8",
             "a remainder",
         ),
         (
-            "second_at(past_256ths(in_256ths(n))) as u8",
+            "second_at(past(in_256ths(n), 8)) as u8",
             "(n%60) as u8",
             "a remainder",
         ),
