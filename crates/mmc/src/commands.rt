@@ -2,7 +2,7 @@
 // has the drive answer before its work is done.
 ghost use Rattle.std.specs.Prelude.{◌≡◌, true};
 ghost use Rattle.mmc.specs.Times.{in_range};
-ghost use Rattle.mmc.specs.Commands.{get_configuration, read_disc_information, read_track_information, mode_select, send_cue_sheet, write_range, write_bytes, write_command, synchronize_cache, close_track_session, test_unit_ready, request_sense, blank};
+ghost use Rattle.mmc.specs.Commands.{get_configuration, read_disc_information, read_track_information, mode_select, send_cue_sheet, twos, write_range, write_bytes, write_command, synchronize_cache, close_track_session, test_unit_ready, request_sense, blank};
 ghost use Rattle.mmc.specs.Refusals.{pass, Fills};
 
 use crate::bytes::{fill, flag};
@@ -66,12 +66,20 @@ fn write_range(a: BlockAddress, n: BlockCount) -> bool
     in_range(a) && (1..=MOST_BLOCKS).contains(&n.0)
 }
 
+// An address's 32 bits in two's complement.
+fn bits_of(a: BlockAddress) -> u32
+    requires { in_range a ≡ true }
+    ensures { result ≡ twos a.0 }
+{
+    ((a.0 + 4294967296) as u64 % 4294967296) as u32
+}
+
 // The WRITE of so many blocks from an address on, which stands in two's complement.
 fn write_bytes(a: BlockAddress, n: BlockCount) -> [u8; 10]
     requires { write_range a n ≡ true }
     ensures { result ≡ write_bytes a n }
 {
-    let [byte_2, byte_3, byte_4, byte_5] = (a.0 as i32).to_be_bytes();
+    let [byte_2, byte_3, byte_4, byte_5] = bits_of(a).to_be_bytes();
     let [byte_7, byte_8] = (n.0 as u16).to_be_bytes();
     [
         0x2A, 0, byte_2, byte_3, byte_4, byte_5, 0, byte_7, byte_8, 0,

@@ -57,7 +57,7 @@ fn frames_to(a: BlockAddress) -> FrameCount
 
 // The address at a count of frames in the program area.
 #[tactic(auto, unfolding(crate::specs::Times::address_at))]
-pub fn address_at(f: FrameCount) -> BlockAddress
+fn address_at(f: FrameCount) -> BlockAddress
     ensures { result ≡ address_at f }
 {
     BlockAddress(f.0 as i64 - LEAD_FRAMES)

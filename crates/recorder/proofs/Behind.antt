@@ -21,7 +21,7 @@ use Rattle.recorder.specs.declared.script.Op.{Op}
 use Rattle.recorder.specs.declared.script.Op.TheVariants.{GetConfiguration, ReadDiscInformation, ReadTrackInformation, ModeSelect, SendCueSheet, Write, SynchronizeCache, CloseTrack, CloseSession, Blank, TestUnitReady, RequestSense}
 use Rattle.std.specs.declared.option.Option.{Option}
 use Rattle.std.specs.declared.option.Option.TheVariants.{Some, None}
-use Rattle.recorder.specs.Script.{write, portion, writes_for, writes, writes_from, before_tracks, close_by, track_by, each_track}
+use Rattle.recorder.specs.Script.{write, portion, writes_for, writes, writes_from, before_tracks, close_by, track_by, each_track, script}
 use Rattle.recorder.specs.Places.{piece_ended, before_block, after_track, after_synchronize, piece_of, after_in}
 use Rattle.recorder.proofs.Scripts.{by}
 
@@ -74,6 +74,9 @@ behind o RequestSense = []
 abbrev pub onto : Order → Option Op → List Op
 onto o (Some x) = x ∷ behind o x
 onto o None = []
+
+pub from_start : (o : Order) → script o ≡ GetConfiguration ∷ behind o GetConfiguration
+from_start o = refl
 
 -- ---- the next track
 

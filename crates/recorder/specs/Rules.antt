@@ -1,5 +1,5 @@
 -- The recording rules, over the order and the exchanges alone: what is left of the plan, moved by the judgement of each reply.
-use Rattle.std.specs.Prelude.{◌≡◌, Bool, false, not, ◌&&◌, ◌||◌, List, [], ◌∷◌, ◌++◌, ℕ, ◌+◌, ◌-◌, ◌*◌, Result, Ok, Err, length, drop, ltb, leb, eqb}
+use Rattle.std.specs.Prelude.{◌≡◌, Bool, true, false, not, ◌&&◌, ◌||◌, List, [], ◌∷◌, ◌++◌, ℕ, ◌+◌, ◌-◌, ◌*◌, Result, Ok, Err, length, drop, ltb, leb, eqb}
 use Rattle.basics.specs.Bytes.{if}
 use Rattle.mmc.specs.Refusals.{Outcome, pass, refuse, number_of, Test, test}
 use Rattle.mmc.specs.Order.{tracks_in, all_kind, blocks_of, mixed_or_kept, short_track}
@@ -40,6 +40,16 @@ pub data Judgement : Type 0 where
 abbrev pub tested : List Test → List Op → Judgement
 tested [] xs = onward xs
 tested (t ∷ ts) xs = if t.applies (refused (because t.number)) (tested ts xs)
+
+-- "The lowest applying number is given", 24 "just before 8", 16 behind the others: the numbers in the order of their tests
+abbrev pub turns : List ℕ
+turns = 5 ∷ 6 ∷ 7 ∷ 24 ∷ 8 ∷ 9 ∷ 10 ∷ 16 ∷ []
+
+-- whether tests stand in an order of numbers
+abbrev pub in_turn : List ℕ → List Test → Bool
+in_turn ns [] = true
+in_turn [] (t ∷ ts) = false
+in_turn (n ∷ ns) (t ∷ ts) = if (eqb n t.number) (in_turn ns ts) (in_turn ns (t ∷ ts))
 
 -- the rows of a table of tests, each with the number of its refusal
 abbrev pub tests_in : List (Bool × Refusal) → List Test

@@ -1,6 +1,6 @@
 // What is seen in the replies to the commands given so far.
 ghost use Rattle.std.specs.Prelude.{◌≡◌, ◌<◌, ◌^◌};
-ghost use Rattle.mmc.specs.Times.{frames_to};
+ghost use Rattle.mmc.specs.Times.{frames_to, address_at};
 ghost use Rattle.recorder.specs.Replies.{Unsigned, UnsignedIn};
 ghost use Rattle.recorder.specs.Exchanges.{start_at, past, progress_past, see};
 
@@ -31,6 +31,14 @@ pub(crate) fn frames_to(a: BlockAddress) -> u64
     ensures { (result ≡ (frames_to a).0) × (result < 2 ^ 33) }
 {
     (a.0 + LEAD_FRAMES) as u64
+}
+
+// The address where the next block goes.
+#[tactic(auto, unfolding(mmc::specs::Times::address_at))]
+pub(crate) fn address_at(at: FrameCount) -> BlockAddress
+    ensures { result ≡ address_at at }
+{
+    BlockAddress(at.0 as i64 - LEAD_FRAMES)
 }
 
 // Where the next block goes once READ TRACK INFORMATION has passed.

@@ -9,7 +9,7 @@ ghost use Rattle.recorder.specs.History.{Takes, Gives, Rests};
 ghost use Rattle.recorder.specs.Job.{due_at, due_in, in_order, in_time, in_piece, is_write, waits_at, waits_in, stands_polled, stands_erasing, stands, rests_at, valid_of, Prepared, command_of, went, turn_in, onward_by, turn_of, state_of, next_in, next_of, step_of, opening};
 
 use crate::answers::{Answer, Cdb, Command, cdb_of, no_cdb};
-use crate::exchanges::{Seen, see_reply};
+use crate::exchanges::{Seen, address_at, see_reply};
 use crate::places::{op_after, piece_length};
 use crate::replies::{Reading, Sense, read_reply};
 use crate::rules::{LAST_FRAME, Stop, Verdict, is_polled, judge_reply};
@@ -18,7 +18,6 @@ use mmc::order::{MOST_TRACKS, Method, Order, no_order};
 use mmc::order_block::read_order;
 use mmc::refusals::Refusal;
 use mmc::reply_block::Reply;
-use mmc::times::address_at;
 use mmc::units::FrameCount;
 
 // Whether no order was taken yet, a job goes on, or how it ended: as done, with a number of document 01, or with 12 and the triple.

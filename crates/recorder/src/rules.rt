@@ -1,10 +1,10 @@
 // The judgement of a reply: what the rules look at, and the numbers 4 to 10, 12, 16 and 24.
-ghost use Rattle.std.specs.Prelude.{◌≡◌, List, [], ◌≤◌, ◌<◌, ◌^◌};
+ghost use Rattle.std.specs.Prelude.{◌≡◌, true, List, [], ◌≤◌, ◌<◌, ◌^◌};
 ghost use Rattle.mmc.specs.Order.{most_tracks};
 ghost use Rattle.recorder.specs.declared.rules.Stop.TheVariants.{Refused};
 ghost use Rattle.recorder.specs.Replies.{Unsigned, UnsignedIn, ForTrack};
 ghost use Rattle.recorder.specs.Script.{track_in, is_polled};
-ghost use Rattle.recorder.specs.Rules.{other_profile, unsuitable, unusable, audio_in_tao, gap, charge, needed, fits, too_long, used, not_erasable, tests_in, answered, tested, erasing_tests, erasing_if, judge_disc, track_tests, polls_if, is_last, onward, verdict_in, judgement_by, judgement_in, judge};
+ghost use Rattle.recorder.specs.Rules.{other_profile, unsuitable, unusable, audio_in_tao, gap, charge, needed, fits, too_long, used, not_erasable, turns, in_turn, tests_in, answered, tested, erasing_tests, erasing_if, judge_disc, track_tests, polls_if, is_last, onward, verdict_in, judgement_by, judgement_in, judge};
 
 use crate::exchanges::{Seen, frames_to};
 use crate::replies::{DiscInformation, Reading, Sense, TrackInformation};
@@ -165,8 +165,10 @@ fn not_erasable(profile: u16, d: DiscInformation) -> bool
     is_used(d.status) && (profile != CD_RW || !d.erasable)
 }
 
-// Refuses with the first of the tests that applies. Where none does, the operation is answered, whatever comes next.
+// Refuses with the first of the tests that applies; they stand in the order of `turns`, 24 before 8. Where none does, the
+// operation is answered, whatever comes next.
 fn first_of(tests: &[(bool, Refusal)]) -> Result<(), Refusal>
+    requires { in_turn turns (tests_in tests.now) ≡ true }
     ensures { (xs : List Op) → answered xs result ≡ tested (tests_in tests.now) xs }
 {
     for (applies, refusal) in tests {

@@ -1,5 +1,5 @@
 -- The facts on signed addresses that the proofs cite. Assumes nothing.
-use Prim.Native.Nat.{ℕ, suc, ◌-◌, ◌*◌, ◌<◌, ◌≤◌, ◌^◌}
+use Prim.Native.Nat.{ℕ, suc, ◌-◌, ◌*◌, ◌<◌, ◌≤◌, ◌^◌, ◌%◌}
 use native.Mathlib.Omega.{arith}
 use native.Mathlib.Decide.{dec_lt}
 use mathlib.Core.Path.{◌≡◌, refl, sym, ap, ◌∙◌}
@@ -11,6 +11,7 @@ use borrow.Author.Tests.{le-ltb, lt-ltb, leb-true, leb-false, le-leb}
 use mir.Syntax.{w64}
 use mir.Val.{SFits, to_z, of_z}
 use mir.Facts.{to_z_pos, to_z-of_z}
+use Rattle.mmc.specs.Commands.{twos}
 use Rattle.mmc.specs.Times.{last_address, first_address, all_frames, lead_in_address, lead_in_minute, lead_in_frames, in_range, has_time, frames_to, time_frames}
 use Rattle.std.proofs.lemmas.Bool.{and_parts, false≢true}
 use Rattle.basics.proofs.Tests.{known}
@@ -103,6 +104,18 @@ from_90 a h l =
     let w = below a.0 h l in
     let f : (time_frames a).0 ≡ lead_in_frames - suc w.0 = simp l (ap nat_abs (ahead a.0 w.0 w.1 (omega arith))) in
     omega arith
+
+-- an address in range with 2 ^ 32 added: its remainder by 2 ^ 32 is the address in two's complement
+abbrev pub raised : ℤ → ℕ
+raised z = nat_abs (z +ℤ pos 4294967296)
+
+pub raise : (a : BlockAddress) → in_range a ≡ true → (a.0 +ℤ pos 4294967296 ≡ pos (raised a.0)) × (raised a.0 < 2 ^ 33) × (raised a.0 % 4294967296 ≡ twos a.0)
+unfolding in_range
+raise a h =
+    ⊎_elim
+    (λ w. rw w.1 (refl, omega arith, omega arith))
+    (λ w. rw w.1 (let e = minus 4294967296 w.0 (omega arith) in (e ∙ ap (λ (x : ℤ). pos (nat_abs x)) (sym e), rw e (omega arith), rw e (omega arith))))
+    (sorted a.0 h)
 
 -- an address in range with a length added fits
 pub plus_fits : (a : BlockAddress) (k : ℕ) → in_range a ≡ true → k < 2 ^ 32 → SFits w64 (a.0 +ℤ pos k)
