@@ -9,7 +9,7 @@
 // 0 where refused; then the lent buffer, which was filled with A5h beforehand.
 #![tactic(auto)]
 
-ghost use Rattle.std.specs.Prelude.{◌≡◌, true, false, [], ◌++◌, ◌+◌, ◌≤◌, length, drop, MatchOption};
+ghost use Rattle.std.specs.Prelude.{◌≡◌, true, false, [], ◌++◌, ◌+◌, ◌≤◌, length, take, drop, MatchOption};
 ghost use Rattle.io.specs.Counts.{IsPrefixLen};
 ghost use Rattle.packs.specs.Answers.{answer_to, bytes_of};
 ghost use Rattle.packs.specs.Requests.{most_room, number_of, listed, Says, is_head, is_request, next_length, answered};
@@ -152,12 +152,19 @@ fn reply(head: &[u8], request: Request, payload: &[u8], out: &mut [u8]) -> bool
     send(head, payload, out)
 }
 
-// Answers a request if its payload came whole, and tells whether to go on. The space for answers is lent, so that it is not made
-// anew.
-fn serve_payload(head: &[u8], request: Request, payload: &[u8], out: &mut [u8; MOST_ANSWER]) -> bool
-    requires { Says head.now request }
-    ensures { is_request head.now payload.now ≡ false → result ≡ false }
+// Answers a request if its payload came whole, and tells whether to go on. Of the space the first got bytes came. The space for
+// answers is lent, so that it is not made anew.
+fn serve_payload(
+    head: &[u8],
+    request: Request,
+    space: &[u8],
+    got: usize,
+    out: &mut [u8; MOST_ANSWER],
+) -> bool
+    requires { Says head.now request × IsPrefixLen got space.now }
+    ensures { is_request head.now (take got space.now) ≡ false → result ≡ false }
 {
+    let payload = &space[..got];
     if payload.len() != request.size {
         return stop(head, payload);
     }
@@ -174,13 +181,20 @@ fn read_payload(
     requires { Says head.now request × (length space.old ≡ request.size) }
 {
     let got = receive(head, space);
-    serve_payload(head, request, &space[..got], out)
+    serve_payload(head, request, space, got, out)
 }
 
-// Answers a request if what came is a head, and tells whether to go on.
-fn serve_head(head: &[u8], payload: &mut [u8; MOST_SIZE], out: &mut [u8; MOST_ANSWER]) -> bool
-    ensures { is_head head.now ≡ false → result ≡ false }
+// Answers a request if what came is a head, and tells whether to go on. Of the space the first got bytes came.
+fn serve_head(
+    space: &[u8],
+    got: usize,
+    payload: &mut [u8; MOST_SIZE],
+    out: &mut [u8; MOST_ANSWER],
+) -> bool
+    requires { IsPrefixLen got space.now }
+    ensures { is_head (take got space.now) ≡ false → result ≡ false }
 {
+    let head = &space[..got];
     match request_of(head) {
         Some(request) => read_payload(head, request, &mut payload[..request.size], out),
         None => stop(head, &[]),
@@ -191,7 +205,7 @@ fn serve_head(head: &[u8], payload: &mut [u8; MOST_SIZE], out: &mut [u8; MOST_AN
 fn serve(payload: &mut [u8; MOST_SIZE], out: &mut [u8; MOST_ANSWER]) -> bool {
     let mut space = [0; 5];
     let got = receive(&[], &mut space);
-    serve_head(&space[..got], payload, out)
+    serve_head(&space, got, payload, out)
 }
 
 // Does nothing. Why the program ends is named for the contract alone: it is not to go on, or has had all its turns.

@@ -98,7 +98,7 @@ fn finish(
     input: &mut [u8; INPUT_BYTES],
     text: &mut [u8; TEXT_BYTES],
 ) -> Result<Run, OutputLost>
-    requires { (run_in first).used ≡ 0 }
+    requires { ((run_in first).used ≡ 0) × (length input.old ≡ 65536) × (length text.old ≡ 8192) }
     ensures { (Finishes first result) × ExampleTexts }
 {
     let mut sent = first;

@@ -5,7 +5,8 @@
 
 mod stage;
 
-ghost use Rattle.std.specs.Prelude.{◌≡◌, true, false, ◌≤◌, length, Ok, MatchOption, is_ok};
+ghost use Rattle.std.specs.Prelude.{◌≡◌, true, false, ◌&&◌, ◌≤◌, length, Ok, MatchOption, is_ok};
+ghost use Rattle.lines.specs.Shown.{widest};
 ghost use Rattle.watch.specs.Bench.{ExampleStages};
 ghost use Rattle.watch.specs.Watch.{drawn_over, watch_in, reads_on, complaint, stage_in, written_in, Finishes};
 
@@ -39,6 +40,13 @@ fn unended(last: bool, line: &[u8]) -> &[u8]
     }
 }
 
+// Both.
+fn both(a: bool, b: bool) -> bool
+    ensures { result ≡ (a && b) }
+{
+    a && b
+}
+
 // Writes a line out, and answers whether the output took all of it. On a terminal it goes over the line before.
 fn put_line(terminal: bool, last: bool, line: &[u8]) -> bool {
     if !terminal {
@@ -46,7 +54,7 @@ fn put_line(terminal: bool, last: bool, line: &[u8]) -> bool {
     }
     let erased = io::write_all(STDOUT_FILENO, b"\r\x1B[K");
     let drawn = io::write_all(STDOUT_FILENO, unended(last, line));
-    erased && drawn
+    both(erased, drawn)
 }
 
 // Shows the line. The buffer is named for the contract alone: the bytes are the line's.
@@ -88,6 +96,7 @@ fn finish(
     block: &mut [u8; BLOCK_BYTES],
     text: &mut [u8; WIDEST],
 ) -> Result<Watch, OutputLost>
+    requires { (length block.old ≡ 512) × (length text.old ≡ widest) }
     ensures { (Finishes (written_in first text.old) result text.new) × ExampleStages }
 {
     let mut shown = first;

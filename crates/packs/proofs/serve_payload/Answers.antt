@@ -7,21 +7,21 @@ use Rattle.packs.proofs.Heads.{limits, whole, unlike}
 use Rattle.packs.proofs.serve_payload.Goals as goal
 
 pub stop-requires : goal.stop-requires
-stop-requires c = unlike _ _ c.args.request c.requires c.if-payload-request.true
+stop-requires c = unlike _ _ c.args.request c.requires.0 c.if-payload-request.true
 
 pub overflow_add-request : goal.overflow_add-request
-overflow_add-request c = omega (arith, (limits _ _ c.requires).0)
+overflow_add-request c = omega (arith, (limits _ _ c.requires.0).0)
 
 pub slice_bounds-reply-end : goal.slice_bounds-reply-end
-slice_bounds-reply-end c = omega (arith, (limits _ _ c.requires).0)
+slice_bounds-reply-end c = omega (arith, (limits _ _ c.requires.0).0)
 
 pub slice_bounds-reply-end-2 : goal.slice_bounds-reply-end-2
 slice_bounds-reply-end-2 c =
-    sym (length-take-le (3 + c.args.request.room) c.args.out.now (omega (arith, (limits _ _ c.requires).0)))
+    sym (length-take-le (3 + c.args.request.room) c.args.out.now (omega (arith, (limits _ _ c.requires.0).0)))
 
 pub reply-requires : goal.reply-requires
 reply-requires c =
-    (c.requires, whole _ _ c.args.request c.requires c.if-payload-request.false, length-take-le (3 + c.args.request.room) c.args.out.now (omega (arith, (limits _ _ c.requires).0)))
+    (c.requires.0, whole _ _ c.args.request c.requires.0 c.if-payload-request.false, length-take-le (3 + c.args.request.room) c.args.out.now (omega (arith, (limits _ _ c.requires.0).0)))
 
 pub returns : goal.returns
-returns c e = absurd (both_ways _ e (whole _ _ c.args.request c.requires c.if-payload-request.false))
+returns c e = absurd (both_ways _ e (whole _ _ c.args.request c.requires.0 c.if-payload-request.false))

@@ -27,7 +27,7 @@ one_more first sent run next o reads s buffer e k w h f =
 
 pub loop-init : goal.loop-init
 unfolding after_reads
-loop-init c = (c.requires, ([], refl, refl))
+loop-init c = (c.requires.0, ([], refl, refl))
 
 pub loop-preserved : goal.loop-preserved
 loop-preserved c =
