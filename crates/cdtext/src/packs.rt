@@ -81,7 +81,8 @@ fn pack_of(sort: u8, track: u8, number: u8, position: u8, text: &[u8]) -> [u8; 1
     p[..4].copy_from_slice(&[sort, track, number, position]);
     p[4..4 + text.len()].copy_from_slice(text);
     let check = check_of(&p[..16]);
-    p[16..].copy_from_slice(&check.to_be_bytes());
+    let [high, low] = check.to_be_bytes();
+    p[16..].copy_from_slice(&[high, low]);
     p
 }
 

@@ -1,3 +1,4 @@
 pub mod Halving
+pub mod Cutting
 pub mod Shown
 pub mod Bench

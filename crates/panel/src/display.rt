@@ -6,7 +6,7 @@ ghost use Rattle.panel.specs.Panel.{Displays, Fraction, ProgressBack};
 
 use recorder::job::{Phase, Poll, Progress, Recorder};
 use recorder::replies::Sense;
-use std::num::saturating_f64_to_u16;
+use std::num::truncating_f64_to_u64;
 
 // One of four things: idle, busy with its fraction, finished, or stopped with its number. 12 has its triple beside it.
 #[derive(Clone, Copy)]
@@ -38,7 +38,14 @@ pub fn fraction(progress: u16) -> f64
 pub fn progress_of(x: f64) -> u16
     ensures { ProgressBack x result }
 {
-    saturating_f64_to_u16(x * 65536.0)
+    let y = x * 65536.0;
+    if y > -1.0 {
+        if y < 65536.0 {
+            return truncating_f64_to_u64(y) as u16;
+        }
+        return 65535;
+    }
+    0
 }
 
 // What the panel shows of a recorder: by how its job stands.
